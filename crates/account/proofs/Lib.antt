@@ -1,0 +1,2 @@
+pub mod Panel
+pub mod Cases

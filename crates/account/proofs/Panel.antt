@@ -1,0 +1,58 @@
+-- The first panel's rule: its effect is the table's wherever the guard holds, its states stay in order, and what the rule promises of any guard and effect it promises of these.
+-- Assumes nothing.
+use Prim.Native.Nat.{ℕ, _+_, _-_, _≤_}
+use mathlib.Core.Path.{_≡_, refl, sym, _∙_, ap}
+use mathlib.Core.Bool.{Bool, true, false, cond, _&&_}
+use mathlib.Core.List.{List}
+use native.Mathlib.Omega.{arith}
+use lib.Dec.{leb, eqb, lit≤}
+use borrow.Author.Tests.{leb-true, le-leb}
+use Rattle.rule.specs.Rule.{Rule, Slot, Account, Message, newAccount}
+use Rattle.rule.specs.Outcome.{outcome}
+use Rattle.rule.specs.Call.{reached}
+use Rattle.rule.specs.Order.{Sound, InOrder, order}
+use Rattle.rule.specs.Demand.{Demand3}
+use Rattle.rule.proofs.Lists.{and-left, and-right, and-both}
+use Rattle.rule.proofs.Safe.{Safe, outcome-agree}
+use Rattle.rule.proofs.Order.{reached-clauses, reached-order}
+use Rattle.rule.proofs.Demand.{demand3}
+use Rattle.account.specs.declared.Event.{Event}
+use Rattle.account.specs.declared.Event.the-variants.{Open, Withdraw, Deposit, Close}
+use Rattle.account.specs.declared.State.{State}
+use Rattle.account.specs.Panel.{limit, isNew, isOpened, guardOf, tableEffect, effectOf, stateFits, panel, tablePanel}
+
+-- where the guard holds the effect is the table's
+pub effect-table : (e : Event) (s : State) → guardOf e s ≡ true → effectOf e s ≡ tableEffect e s
+unfolding effectOf
+effect-table e s h = rw h
+
+-- so the outcomes of events that are safe are those of the table's effects
+pub outcome-table : (xs : List (Slot ℕ Event)) (n : ℕ) (s : State) → Safe panel xs s → outcome tablePanel xs n s ≡ outcome panel xs n s
+outcome-table xs n s h = outcome-agree panel tablePanel (λ e t g. sym (effect-table e t g)) xs n s h
+
+-- a balance within the limit, on an account that is open
+opened-fits : (l : Bool) (b : ℕ) → l ≡ true → b ≤ limit → (leb b limit && cond l true (eqb b 0)) ≡ true
+opened-fits l b h k = rw (h, le-leb b limit k)
+
+table-fits : (e : Event) (s : State) → guardOf e s ≡ true → stateFits s ≡ true → stateFits (tableEffect e s) ≡ true
+table-fits (Open a) s g h = opened-fits true a refl (leb-true a limit (and-right (isNew (s .life)) (leb a limit) g))
+table-fits (Withdraw a) s g h =
+    opened-fits (isOpened (s .life)) (s .balance - a)
+    (and-left (isOpened (s .life)) (leb 1 a) (and-left (isOpened (s .life) && leb 1 a) (leb a (s .balance)) g))
+    (omega (arith, leb-true (s .balance) limit (and-left (leb (s .balance) limit) (cond (isOpened (s .life)) true (eqb (s .balance) 0)) h)))
+table-fits (Deposit a) s g h =
+    opened-fits (isOpened (s .life)) (s .balance + a)
+    (and-left (isOpened (s .life)) (leb 1 a) (and-left (isOpened (s .life) && leb 1 a) (leb (s .balance + a) limit) g))
+    (leb-true (s .balance + a) limit (and-right (isOpened (s .life) && leb 1 a) (leb (s .balance + a) limit) g))
+table-fits Close s g h = refl
+
+pub sound : Sound panel
+sound = record { fresh = refl; kept = λ e s g h. ap stateFits (effect-table e s g) ∙ table-fits e s g h }
+
+-- every account reached from fresh is in order,
+pub panel-order : (ms : List (Message ℕ Event)) → InOrder panel (reached panel (newAccount panel ℕ) ms)
+panel-order ms = reached-clauses panel sound ms
+
+-- and demand 3 holds of it
+pub panel-demand3 : (ms : List (Message ℕ Event)) → Demand3 panel ms
+panel-demand3 ms = demand3 panel (lit≤ tt) ms

@@ -1,0 +1,114 @@
+-- Cases 1 to 8 of document 01, "On each side of the line": one table, one statement.
+-- Assumes nothing.
+use Prim.Native.Nat.{ℕ, _^_}
+use mathlib.Core.Path.{_≡_}
+use mathlib.Core.List.{List, [], _∷_, _++_, map}
+use Rattle.rule.specs.Lists.{numbers}
+use Rattle.rule.specs.Rule.{Message, request, commit, abort, Verdict, accept, reject, hold, Entry, voted, noted, applied, dropped, newAccount}
+use Rattle.rule.specs.Outcome.{undecidedOf, appliedIn, outcomes}
+use Rattle.rule.specs.Call.{Answer, refused, taken, written, call, reached}
+use Rattle.account.specs.declared.Event.{Event}
+use Rattle.account.specs.declared.Event.the-variants.{Open, Withdraw, Deposit, Close}
+use Rattle.account.specs.declared.State.{State}
+use Rattle.account.specs.Panel.{panel}
+use Rattle.account.specs.Places.{RuleAccount}
+
+-- what is asked in a case: how an event is weighed; what the outcomes are; what a message writes
+pub data Question : Type 0 where
+  asks : Event → Question
+  outlook : Question
+  sends : Message ℕ Event → Question
+
+-- what is found: a vote with the outcomes weighed; the balances of the outcomes with the numbers applied; entries
+pub data Finding : Type 0 where
+  vote : Verdict → ℕ → Finding
+  outcomesAre : List ℕ → List ℕ → Finding
+  writes : List (Entry ℕ Event ℕ) → Finding
+
+-- a row: the messages sent to a new account before, the question, and what document 01 says
+pub record Row : Type 0 where
+  pub before : List (Message ℕ Event)
+  pub question : Question
+  pub said : Finding
+
+-- the vote among the entries of a request
+abbrev pub voteIn : List (Entry ℕ Event ℕ) → Finding
+voteIn [] = writes []
+voteIn (voted v t g e n ∷ xs) = vote v n
+voteIn (noted t g ∷ xs) = writes []
+voteIn (applied t g e b ∷ xs) = writes []
+voteIn (dropped t g e ∷ xs) = writes []
+
+-- what an account answers; a request is sent under transaction 9, and everything at second 100
+abbrev pub answers : RuleAccount → Question → Finding
+answers a (asks e) = voteIn (written (call panel a (request 9 100 e) .answer))
+answers a outlook =
+    outcomesAre (map (λ (s : State). s .balance) (outcomes panel (a .progress) (a .state)))
+    (map (appliedIn (a .progress)) (numbers 0 (2 ^ undecidedOf (a .progress))))
+answers a (sends m) = writes (written (call panel a m .answer))
+
+abbrev pub found : Row → Finding
+found row = answers (reached panel (newAccount panel ℕ) (row .before)) (row .question)
+
+-- an account of that balance with nothing in progress; an event more in progress
+abbrev pub opened : ℕ → List (Message ℕ Event)
+opened a = request 1 100 (Open a) ∷ commit 1 100 ∷ []
+
+abbrev pub row : List (Message ℕ Event) → Question → Finding → Row
+row before question said = record { before = before; question = question; said = said }
+
+abbrev pub case3 : List (Message ℕ Event)
+case3 = opened 100 ++ (request 2 100 (Withdraw 60) ∷ [])
+
+abbrev pub case5 : List (Message ℕ Event)
+case5 = opened 100 ++ (request 2 100 (Withdraw 60) ∷ request 3 100 (Withdraw 40) ∷ [])
+
+abbrev pub case6 : List (Message ℕ Event)
+case6 = case5 ++ (commit 3 100 ∷ [])
+
+abbrev pub case7 : List (Message ℕ Event)
+case7 = request 1 100 (Open 10) ∷ []
+
+abbrev pub case8 : List (Message ℕ Event)
+case8 = opened 100 ++ (request 2 100 Close ∷ [])
+
+unfoldable pub table : List Row
+table =
+    -- 1. New
+    row [] (asks (Deposit 5)) (vote reject 1)
+    ∷ row [] (asks (Open 0)) (vote accept 1)
+    ∷ row [] (asks (Open 1_000_000)) (vote accept 1)
+    ∷ row [] (asks (Open 1_000_001)) (vote reject 1)
+    -- 2. Balance 100, nothing in progress
+    ∷ row (opened 100) (asks (Withdraw 100)) (vote accept 1)
+    ∷ row (opened 100) (asks (Withdraw 101)) (vote reject 1)
+    ∷ row (opened 100) (asks (Withdraw 0)) (vote reject 1)
+    -- 3. Balance 100, Withdraw 60 undecided
+    ∷ row case3 (asks (Withdraw 40)) (vote accept 2)
+    ∷ row case3 (asks (Withdraw 41)) (vote hold 2)
+    ∷ row case3 (asks (Withdraw 101)) (vote reject 2)
+    -- 4. Balance 999,990, then with Withdraw 1 undecided
+    ∷ row (opened 999_990) (asks (Deposit 10)) (vote accept 1)
+    ∷ row (opened 999_990) (asks (Deposit 11)) (vote reject 1)
+    ∷ row (opened 999_990 ++ (request 2 100 (Withdraw 1) ∷ [])) (asks (Deposit 11)) (vote hold 2)
+    -- 5. Balance 100, Withdraw 60 and Withdraw 40 undecided
+    ∷ row case5 outlook (outcomesAre (100 ∷ 40 ∷ 60 ∷ 0 ∷ []) (0 ∷ 1 ∷ 1 ∷ 2 ∷ []))
+    ∷ row case5 (asks (Withdraw 1)) (vote hold 4)
+    ∷ row case5 (asks (Deposit 1)) (vote accept 4)
+    -- 6. Case 5, commit of the 40; then abort of the 60
+    ∷ row case5 (sends (commit 3 100)) (writes (noted 3 100 ∷ []))
+    ∷ row case6 outlook (outcomesAre (60 ∷ 0 ∷ []) (0 ∷ 1 ∷ []))
+    ∷ row case6 (sends (abort 2 100)) (writes (dropped 2 100 (Withdraw 60) ∷ applied 3 100 (Withdraw 40) 60 ∷ []))
+    ∷ row (case6 ++ (abort 2 100 ∷ [])) outlook (outcomesAre (60 ∷ []) (0 ∷ []))
+    -- 7. Open 10 undecided
+    ∷ row case7 (asks (Open 1)) (vote hold 2)
+    ∷ row case7 (asks (Withdraw 5)) (vote hold 2)
+    ∷ row case7 (asks (Withdraw 11)) (vote reject 2)
+    -- 8. Balance 100, Close undecided
+    ∷ row case8 (asks (Withdraw 101)) (vote reject 2)
+    ∷ row case8 (asks (Deposit 1)) (vote hold 2)
+    ∷ []
+
+-- what is found is what document 01 says, row by row
+abbrev pub CasesHold : Type 0
+CasesHold = map found table ≡ map (λ (r : Row). r .said) table

@@ -1,0 +1,39 @@
+-- An account in order (document 01, "Weighing a request", its last sentence).
+-- Assumes nothing.
+use Prim.Native.Nat.{ℕ}
+use mathlib.Core.Bool.{Bool, true, false, _&&_}
+use mathlib.Core.List.{List, [], _∷_}
+use lib.Dec.{leb, eqb}
+use lib.ListN.{drop}
+use Rattle.rule.specs.Lists.{every}
+use Rattle.rule.specs.Order as rule
+use Rattle.account.specs.declared.Event.{Event}
+use Rattle.account.specs.declared.Event.the-variants.{Open, Withdraw, Deposit, Close}
+use Rattle.account.specs.declared.Decision.{Decision}
+use Rattle.account.specs.declared.Decision.the-variants.{Undecided, Committed}
+use Rattle.account.specs.declared.Slot.{Slot}
+use Rattle.account.specs.declared.Account.{Account}
+use Rattle.account.specs.Panel.{panel, room, bench}
+use Rattle.account.specs.Places.{listsOf}
+
+abbrev pub isUndecided : Decision → Bool
+isUndecided Undecided = true
+isUndecided Committed = false
+
+abbrev pub isOpenZero : Event → Bool
+isOpenZero (Open a) = eqb a 0
+isOpenZero (Withdraw a) = false
+isOpenZero (Deposit a) = false
+isOpenZero Close = false
+
+-- whether a place is the blank
+abbrev pub isBlank : Slot → Bool
+isBlank x = eqb (x .transaction) 0 && eqb (x .second) 0 && isOpenZero (x .event) && isUndecided (x .decision)
+
+-- "its counts .. are within limits", "blanks are blank", and every clause that the rule has on the account's lists
+unfoldable pub orderOf : Account → Bool
+orderOf a =
+    leb (a .progressing) room && leb (a .holding) bench
+    && every isBlank (drop (a .progressing) (a .progress))
+    && every isBlank (drop (a .holding) (a .held))
+    && rule.order panel (listsOf a)

@@ -1,0 +1,82 @@
+-- What request, commit and abort give, and what the outcome question answers, for every account whatever its places hold
+-- (document 01, "Weighing a request" and "Numbers given when a call is not taken").
+-- Assumes nothing.
+use Prim.Native.Nat.{ℕ, _-_, _^_}
+use mathlib.Core.Bool.{Bool, cond}
+use mathlib.Core.List.{List, [], _∷_, _++_, map}
+use lib.Dec.{ltb}
+use lib.ListN.{length, replicate}
+use Rattle.rule.specs.Rule as rule
+use Rattle.rule.specs.Outcome.{undecidedOf, appliedIn, outcome}
+use Rattle.rule.specs.Call as rule-call
+use Rattle.account.specs.declared.Event.{Event}
+use Rattle.account.specs.declared.State.{State}
+use Rattle.account.specs.declared.Account.{Account}
+use Rattle.account.specs.declared.Told.{Told}
+use Rattle.account.specs.declared.Told.the-variants.{Accepted, Rejected, Held, Noted, Applied, Dropped}
+use Rattle.account.specs.declared.Entry.{Entry}
+use Rattle.account.specs.declared.Entries.{Entries}
+use Rattle.account.specs.declared.Answer.{Answer}
+use Rattle.account.specs.declared.Answer.the-variants as Answer′
+use Rattle.account.specs.declared.Called.{Called}
+use Rattle.account.specs.declared.Outlook.{Outlook}
+use Rattle.account.specs.declared.Outlook.the-variants as Outlook′
+use Rattle.account.specs.Panel.{panel}
+use Rattle.account.specs.Places.{listsOf, accountOf}
+use Rattle.account.specs.Order.{orderOf}
+
+-- an entry of the rule, with the second filed and the balance shown
+abbrev pub RuleEntry : Type 0
+RuleEntry = rule.Entry ℕ Event ℕ
+
+-- the number of a step's answer: a refusal's is that of document 01's list, and 0 says that the step was taken
+abbrev pub numberOf : Answer → ℕ
+numberOf (Answer′.Refused n) = n
+numberOf Answer′.Taken = 0
+
+abbrev pub votedAs : rule.Verdict → Event → ℕ → Told
+votedAs rule.accept e n = Accepted e n
+votedAs rule.reject e n = Rejected e n
+votedAs rule.hold e n = Held e n
+
+-- the rule's entry as a value
+abbrev pub entryOf : RuleEntry → Entry
+entryOf (rule.voted v t g e n) = record { transaction = t; second = g; told = votedAs v e n }
+entryOf (rule.noted t g) = record { transaction = t; second = g; told = Noted }
+entryOf (rule.applied t g e b) = record { transaction = t; second = g; told = Applied e b }
+entryOf (rule.dropped t g e) = record { transaction = t; second = g; told = Dropped e }
+
+-- "at most 17" entries in one call; a place that no entry takes is this one
+abbrev pub most : ℕ
+most = 17
+
+abbrev pub blankEntry : Entry
+blankEntry = record { transaction = 0; second = 0; told = Noted }
+
+unfoldable pub entriesOf : List RuleEntry → Entries
+entriesOf xs = record { at = map entryOf xs ++ replicate (most - length xs) blankEntry; count = length xs }
+
+-- a refusal: its number, the same account, no entries
+abbrev pub refusedBy : Account → ℕ → Called
+refusedBy a n = record { answer = Answer′.Refused n; account = a; entries = entriesOf [] }
+
+-- the rule's call, in places
+abbrev pub calledBy : Account → rule.Account ℕ State Event → rule-call.Answer ℕ Event ℕ → Called
+calledBy a next (rule-call.refused n) = refusedBy a n
+calledBy a next (rule-call.taken xs) = record { answer = Answer′.Taken; account = accountOf next; entries = entriesOf xs }
+
+-- a step of an account: 5 if it is not in order, else the rule's call
+unfoldable pub stepOf : Account → rule.Message ℕ Event → Called
+stepOf a m =
+    cond (orderOf a)
+    (calledBy a (rule-call.call panel (listsOf a) m .account) (rule-call.call panel (listsOf a) m .answer))
+    (refusedBy a 5)
+
+-- the outcome question: 5, then 12, "outcome number not below 2 to the power u"; else "the state in that outcome and how many undecided events it applies"
+unfoldable pub outlookOf : Account → ℕ → Outlook
+outlookOf a n =
+    cond (orderOf a)
+    (cond (ltb n (2 ^ undecidedOf (listsOf a .progress)))
+    (Outlook′.State (outcome panel (listsOf a .progress) n (listsOf a .state)) (appliedIn (listsOf a .progress) n))
+    (Outlook′.Refused 12))
+    (Outlook′.Refused 5)

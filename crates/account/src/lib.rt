@@ -1,0 +1,114 @@
+// The first panel: the events of an account, its state, its places, and the account itself.
+
+// An event, with its amount of adjustment steps.
+pub enum Event {
+    Open(u32),
+    Withdraw(u32),
+    Deposit(u32),
+    Close,
+}
+
+pub enum Life {
+    New,
+    Opened,
+    Closed,
+}
+
+// The applied state of an account.
+pub struct State {
+    pub life: Life,
+    pub balance: u32,
+}
+
+pub enum Decision {
+    Undecided,
+    Committed,
+}
+
+// A place of an account: an event in progress, or a request held, which has no decision and stands as undecided.
+pub struct Slot {
+    pub transaction: u32,
+    pub second: u32,
+    pub event: Event,
+    pub decision: Decision,
+}
+
+// An account: the first `progressing` places of `progress` and the first `holding` of `held` are used, in arrival order; the others are blank.
+pub struct Account {
+    pub state: State,
+    pub progress: [Slot; 8],
+    pub progressing: usize,
+    pub held: [Slot; 8],
+    pub holding: usize,
+}
+
+// What an entry says of its transaction: a vote with the outcomes weighed, a commit noted, an event applied with the balance after it, an event dropped.
+pub enum Told {
+    Accepted(Event, u32),
+    Rejected(Event, u32),
+    Held(Event, u32),
+    Noted,
+    Applied(Event, u32),
+    Dropped(Event),
+}
+
+// An entry, as a value: without the number of the account, which an account does not know.
+pub struct Entry {
+    pub transaction: u32,
+    pub second: u32,
+    pub told: Told,
+}
+
+// The entries of one call, in the order in which they were written: the first `count` places; the others are blank.
+pub struct Entries {
+    pub at: [Entry; 17],
+    pub count: usize,
+}
+
+// What a step answers: the number of its refusal, or that it was taken.
+pub enum Answer {
+    Refused(u8),
+    Taken,
+}
+
+// What a step gives: the answer, the account that follows, and the entries written.
+pub struct Called {
+    pub answer: Answer,
+    pub account: Account,
+    pub entries: Entries,
+}
+
+// What the outcome question answers: the number of its refusal, or the state in that outcome and how many undecided events it applies.
+pub enum Outlook {
+    Refused(u8),
+    State(State, u32),
+}
+
+// The blank place.
+const BLANK: Slot = Slot {
+    transaction: 0,
+    second: 0,
+    event: Event::Open(0),
+    decision: Decision::Undecided,
+};
+
+impl Account {
+    // The limits: events in progress, requests held, the highest balance.
+    pub const PROGRESS: usize = 8;
+
+    pub const HELD: usize = 8;
+
+    pub const LIMIT: u32 = 1_000_000;
+
+    // A new account, with nothing in progress or held.
+    pub const FRESH: Account = Account {
+        state: State {
+            life: Life::New,
+            balance: 0,
+        },
+        progress: [BLANK; 8],
+        progressing: 0,
+        held: [BLANK; 8],
+        holding: 0,
+    };
+}

@@ -1,0 +1,149 @@
+-- Weighing is exact, and what the numbers of outcomes say: from the laws of numbers in a row, by cases on the two tests of `weigh`.
+-- Assumes nothing.
+use Prim.Native.Nat.{ℕ, zero, suc, _+_, _/_, _%_, _^_, _<_, _≤_}
+use mathlib.Core.Path.{_≡_, refl, sym, _∙_, ap, ap₂, fun-ext}
+use mathlib.Core.Logic.{_⊎_, inl, inr, ⊎-elim, _↔_}
+use mathlib.Core.Bool.{Bool, true, false, cond, _&&_, _||_, true≢false, false≢true}
+use mathlib.Core.List.{List, [], _∷_, map}
+use native.Mathlib.Omega.{arith}
+use lib.Dec.{eqb, leb}
+use lib.Pow.{pow-pos, shr-shr}
+use lib.Count.{ones, ones-step}
+use lib.ListN.{length}
+use borrow.Author.Tests.{lt-leb, le-leb}
+use Rattle.rule.specs.Lists.{every, some-of, numbers}
+use Rattle.rule.specs.Rule.{Rule, Slot, slot, undecided, committed, Verdict, accept, reject, hold}
+use Rattle.rule.specs.Outcome.{undecidedOf, appliedIn, bit, outcome, outcomes}
+use Rattle.rule.specs.Weigh.{Weighing, weigh, unweighed, decide, decideBehind}
+use Rattle.rule.specs.Exact.{chosenState, guardIn, Numbered, Exact, Decided}
+use Rattle.rule.proofs.Lists.{either, every-map, some-map, every-number, number-every, some-number, no-number, number-none, fails-number, and-left}
+use Rattle.rule.proofs.Outcomes.{twice, outcomes-length}
+
+bit-zero : (n : ℕ) → bit n 0 ≡ eqb (n % 2) 1
+bit-zero n = let e : n / 1 ≡ n = omega arith in rw e
+
+bit-suc : (n i : ℕ) → bit n (suc i) ≡ bit (n / 2) i
+bit-suc n i =
+    let e : 1 + i ≡ suc i = omega arith in
+    ap (λ (k : ℕ). eqb (k % 2) 1) (ap (λ (k : ℕ). n / 2 ^ k) (sym e) ∙ sym (shr-shr n 1 i))
+
+module _ {G S E B : Type 0} (R : Rule S E B) where
+  outcome-bits : (xs : List (Slot G E)) (n : ℕ) (s : S) → outcome R xs n s ≡ chosenState R xs (bit n) s
+  outcome-bits [] n s = refl
+  outcome-bits (slot t g e committed ∷ xs) n s = outcome-bits xs n (R .effect e s)
+  outcome-bits (slot t g e undecided ∷ xs) n s =
+      outcome-bits xs (n / 2) (cond (eqb (n % 2) 1) (R .effect e s) s)
+      ∙ ap₂ (λ (c : ℕ → Bool) (b : Bool). chosenState R xs c (cond b (R .effect e s) s)) (fun-ext (λ i. sym (bit-suc n i))) (sym (bit-zero n))
+
+-- the count of ones is the number of undecided events applied
+pub applied-ones : {G E : Type 0} (xs : List (Slot G E)) (n : ℕ) → n < 2 ^ undecidedOf xs → appliedIn xs n ≡ ones n
+unfolding ones
+applied-ones [] n h = let e : n ≡ 0 = omega arith in rw e
+applied-ones (slot t g e committed ∷ xs) n h = applied-ones xs n h
+applied-ones (slot t g e undecided ∷ xs) n h =
+    ap (λ (k : ℕ). n % 2 + k) (applied-ones xs (n / 2) (omega (arith, twice (undecidedOf xs)))) ∙ sym (ones-step n)
+
+module _ {G S E B : Type 0} (R : Rule S E B) where
+  pub numbered : (xs : List (Slot G E)) (s : S) → Numbered R xs s
+  numbered xs s = record { count = outcomes-length R xs s; bits = λ n. outcome-bits R xs n s; applied = applied-ones xs }
+
+-- the two tests of a weighing, from its verdict and back
+verdict : Bool → Bool → Verdict
+verdict every-one some-one = cond every-one accept (cond some-one hold reject)
+
+module _ where
+  every-of-accept : (a b : Bool) → verdict a b ≡ accept → a ≡ true
+  unfolding verdict
+  every-of-accept true b h = refl
+  every-of-accept false true h = let z : _≡_ {A = ℕ} 0 1 = cc in absurd (omega arith)
+  every-of-accept false false h = let z : _≡_ {A = ℕ} 0 1 = cc in absurd (omega arith)
+
+  some-of-reject : (a b : Bool) → verdict a b ≡ reject → b ≡ false
+  unfolding verdict
+  some-of-reject true b h = let z : _≡_ {A = ℕ} 0 1 = cc in absurd (omega arith)
+  some-of-reject false true h = let z : _≡_ {A = ℕ} 0 1 = cc in absurd (omega arith)
+  some-of-reject false false h = refl
+
+  both-of-hold : (a b : Bool) → verdict a b ≡ hold → (a ≡ false) × (b ≡ true)
+  unfolding verdict
+  both-of-hold true b h = let z : _≡_ {A = ℕ} 0 1 = cc in absurd (omega arith)
+  both-of-hold false true h = (refl, refl)
+  both-of-hold false false h = let z : _≡_ {A = ℕ} 0 1 = cc in absurd (omega arith)
+
+  accept-of-every : (a b : Bool) → a ≡ true → verdict a b ≡ accept
+  unfolding verdict
+  accept-of-every a b h = rw h
+
+  reject-of-none : (a b : Bool) → a ≡ false → b ≡ false → verdict a b ≡ reject
+  unfolding verdict
+  reject-of-none a b h k = rw (h, k)
+
+  hold-of-both : (a b : Bool) → a ≡ false → b ≡ true → verdict a b ≡ hold
+  unfolding verdict
+  hold-of-both a b h k = rw (h, k)
+
+-- what one number has not, not every number has; what one has, some has
+not-every : (q : ℕ → Bool) (m n : ℕ) → n < m → q n ≡ false → every q (numbers 0 m) ≡ false
+not-every q m n u h = ⊎-elim (λ e. absurd (true≢false (sym (every-number q 0 m e n (omega arith) (omega arith)) ∙ h))) (λ e. e) (either (every q (numbers 0 m)))
+
+is-some : (q : ℕ → Bool) (m n : ℕ) → n < m → q n ≡ true → some-of q (numbers 0 m) ≡ true
+is-some q m n u h = ⊎-elim (λ e. e) (λ e. absurd (true≢false (sym h ∙ no-number q 0 m e n (omega arith) (omega arith)))) (either (some-of q (numbers 0 m)))
+
+module _ {G S E B : Type 0} (R : Rule S E B) (e : E) (xs : List (Slot G E)) (s : S) where
+  tests : weigh R e (outcomes R xs s) ≡ verdict (every (guardIn R e s xs) (numbers 0 (2 ^ undecidedOf xs))) (some-of (guardIn R e s xs) (numbers 0 (2 ^ undecidedOf xs)))
+  unfolding weigh outcomes verdict
+  tests =
+      ap₂ (λ (a b : Bool). cond a accept (cond b hold reject))
+      (every-map (R .guard e) (λ (n : ℕ). outcome R xs n s) (numbers 0 (2 ^ undecidedOf xs)))
+      (some-map (R .guard e) (λ (n : ℕ). outcome R xs n s) (numbers 0 (2 ^ undecidedOf xs)))
+
+  pub exact : Exact R e xs s
+  exact =
+      let q = guardIn R e s xs in
+      let m = 2 ^ undecidedOf xs in
+      let pos : 0 < m = pow-pos (undecidedOf xs) in
+      record {
+        accepted = (
+          λ v n u. every-number q 0 m (every-of-accept (every q (numbers 0 m)) (some-of q (numbers 0 m)) (sym tests ∙ v)) n (omega arith) (omega arith),
+          λ h. tests ∙ accept-of-every (every q (numbers 0 m)) (some-of q (numbers 0 m)) (number-every q 0 m (λ n l u. h n (omega arith))),
+        );
+        rejected = (
+          λ v n u. no-number q 0 m (some-of-reject (every q (numbers 0 m)) (some-of q (numbers 0 m)) (sym tests ∙ v)) n (omega arith) (omega arith),
+          λ h. tests ∙ reject-of-none (every q (numbers 0 m)) (some-of q (numbers 0 m)) (not-every q m 0 pos (h 0 pos)) (number-none q 0 m (λ n l u. h n (omega arith))),
+        );
+        held = (
+          λ v.
+              let k = both-of-hold (every q (numbers 0 m)) (some-of q (numbers 0 m)) (sym tests ∙ v) in
+              let yes′ = some-number q 0 m (k .1) in
+              let no′ = fails-number q 0 m (k .0) in
+              ((yes′ .0, omega (arith, yes′ .2), yes′ .3), (no′ .0, omega (arith, no′ .2), no′ .3)),
+          λ h. tests ∙ hold-of-both (every q (numbers 0 m)) (some-of q (numbers 0 m)) (not-every q m (h .1 .0) (h .1 .1) (h .1 .2)) (is-some q m (h .0 .0) (h .0 .1) (h .0 .2)),
+        );
+      }
+
+-- With one outcome the guard holds in all or in none.
+one-outcome : (b : Bool) → cond (b && true) accept (cond (b || false) hold reject) ≡ hold → ⊥
+one-outcome true h = let z : _≡_ {A = ℕ} 0 1 = cc in omega arith
+one-outcome false h = let z : _≡_ {A = ℕ} 0 1 = cc in omega arith
+
+pub idle-decide : (G : Type 0) {S E B : Type 0} (R : Rule S E B) (e : E) (s : S) → 1 ≤ R .room → decide {G = G} R e s [] .verdict ≡ hold → ⊥
+unfolding decide weigh outcomes
+idle-decide G R e s roomy h = one-outcome (R .guard e s) (rw (lt-leb (R .room) 0 roomy) at h)
+
+module _ {G S E B : Type 0} (R : Rule S E B) (e : E) (s : S) where
+  pub decided : (progress held : List (Slot G E)) → Decided R e s progress held
+  unfolding decide
+  decided progress [] =
+      record {
+        behind = λ h. absurd (h refl);
+        full = λ h l. rw (le-leb (R .room) (length progress) l);
+        free = λ h l. rw (lt-leb (R .room) (length progress) l, outcomes-length R progress s);
+        idle = λ h roomy empty v. idle-decide G R e s roomy (rw empty at v);
+      }
+  decided progress (x ∷ held) =
+      record {
+        behind = λ h. refl;
+        full = λ h l. refl;
+        free = λ h l. let z : _≡_ {A = ℕ} 0 1 = cc in absurd (omega arith);
+        idle = λ h roomy empty v. let z : _≡_ {A = ℕ} 0 1 = cc in omega arith;
+      }

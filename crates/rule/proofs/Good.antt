@@ -1,0 +1,190 @@
+-- What every step of an account keeps: the lines tied to the account, its events safe, its transactions apart, its counts within limits; and at rest, that its oldest event is
+-- undecided and its oldest held request stays held. Each message that is taken leads from one account at rest to the next, and every entry on the way has its owner.
+-- Settling goes by induction on the events in progress, draining by induction on the requests held.
+-- Assumes nothing.
+use Prim.Native.Nat.{ℕ, zero, suc, _+_, _≤_, _<_}
+use mathlib.Core.Path.{_≡_, refl, sym, _∙_, ap, ap₂, subst}
+use mathlib.Core.Logic.{_⊎_, inl, inr, ⊎-elim}
+use mathlib.Core.Bool.{Bool, true, false, cond, not, _&&_, _||_, true≢false, false≢true}
+use mathlib.Core.List.{List, [], _∷_, _++_, map, append-assoc, append-nil}
+use mathlib.Core.Option.{Option, none, some}
+use native.Mathlib.Omega.{arith}
+use lib.Dec.{eqb, leb}
+use lib.ListN.{length, length-append, length-map}
+use borrow.Author.Tests.{leb-false, eq-eqb, not-false}
+use Rattle.rule.specs.Lists.{every, some-of, keep}
+use Rattle.rule.specs.Rule.{Rule, Decision, undecided, committed, Slot, slot, Account, Message, request, commit, abort, Verdict, accept, reject, hold, Entry, voted, noted, applied, dropped}
+use Rattle.rule.specs.Outcome.{outcomes}
+use Rattle.rule.specs.Weigh.{Weighing, unweighed, weigh, decide, decideBehind}
+use Rattle.rule.specs.Step.{Step, named, mark, without, dropping, after, settledState, applications, unsettled, still, drainBy, askedBy, drain, settle, asked, committing, aborting, step}
+use Rattle.rule.specs.Call.{namedCommitted, refusal, taken}
+use Rattle.rule.specs.Order.{apart, oldestUndecided, oldestStaysHeld, staysHeld}
+use Rattle.rule.specs.History.{Fate, waiting, votedNo, ongoing, wasApplied, wasDropped, Line, line, owners, note, notes, begun}
+use Rattle.rule.specs.Demand.{appliedEvents, run, Owned, AllOwned}
+use Rattle.rule.proofs.Lists.{either, or-left, or-right, or-neither, or-cases, keep-none, keep-others, some-append}
+use Rattle.rule.proofs.Apart.{length-keep, apart-at, apart-snoc, apart-mark, apart-without, apart-less, apart-left, apart-right, apart-other, only-one}
+use Rattle.rule.proofs.Safe.{Safe, safe-mark, safe-without, safe-accept, every-tally}
+use Rattle.rule.proofs.Ties.{Wait, no-more, gone, waits, Live, held-then, no-then, dropped-then, going-then, Past, live-then, no-past, dropped-past, applied-past, noting, live-commit, live-drop, live-hold, live-accept, live-reject, past-noting, past-append, past-apply, past-owners, past-undecided, progressLine, heldLine}
+
+module _ {G S E B : Type 0} (R : Rule S E B) where
+  pub record Tied (s : S) (progress held : List (Slot G E)) (lines : List (Line G E)) : Type 0 where
+    pub past : Past R (R .fresh) lines s progress held
+    pub safe : Safe R progress s
+    pub transactions : apart (progress ++ held) ≡ true
+    pub few : length progress ≤ R .room
+    pub fewHeld : length held ≤ R .bench
+
+  pub record Rest (a : Account G S E) (lines : List (Line G E)) : Type 0 where
+    pub tied : Tied (a .state) (a .progress) (a .held) lines
+    pub oldest : oldestUndecided (a .progress) ≡ true
+    pub stays : oldestStaysHeld R (a .state) (a .progress) (a .held) ≡ true
+
+  -- a step that ends at rest, every entry of which has its owner
+  abbrev pub Done : List (Line G E) → Step G S E B → Type 0
+  Done lines r = Rest (r .account) (notes lines (r .entries)) × AllOwned R lines (r .entries)
+
+  -- What a verdict says: an acceptance, that a place is free and the guard holds in every outcome.
+  decide-accept : (e : E) (s : S) (progress : List (Slot G E))
+      → decide R e s progress .verdict ≡ accept → (length progress < R .room) × (every (R .guard e) (outcomes R progress s) ≡ true)
+  unfolding decide weigh
+  decide-accept e s progress h = full (leb (R .room) (length progress)) refl h
+    where
+      chosen : (a b : Bool) → cond a accept (cond b hold reject) ≡ accept → a ≡ true
+      chosen true b k = refl
+      chosen false true k = let z : _≡_ {A = ℕ} 0 1 = cc in absurd (omega arith)
+      chosen false false k = let z : _≡_ {A = ℕ} 0 1 = cc in absurd (omega arith)
+
+      full : (b : Bool) → leb (R .room) (length progress) ≡ b
+          → cond b unweighed (record { verdict = weigh R e (outcomes R progress s); weighed = length (outcomes R progress s) }) .verdict ≡ accept
+          → (length progress < R .room) × (every (R .guard e) (outcomes R progress s) ≡ true)
+      full true q k = let z : _≡_ {A = ℕ} 0 1 = cc in absurd (omega arith)
+      full false q k = (leb-false (R .room) (length progress) q, chosen (every (R .guard e) (outcomes R progress s)) (some-of (R .guard e) (outcomes R progress s)) k)
+
+  -- a vote of these accounts
+  abbrev pub vote : Verdict → ℕ → G → E → ℕ → Entry G E B
+  vote v t g e n = voted v t g e n
+
+  module _ (s : S) (progress held : List (Slot G E)) (t : ℕ) (g : G) (e : E) (lines : List (Line G E)) where
+    -- the oldest held request is the one owner of an entry of its transaction
+    pub oldest-owner : Tied s progress (slot t g e undecided ∷ held) lines → owners t lines ≡ line t g e waiting 0 ∷ []
+    oldest-owner h =
+        let p = apart-at progress t g e undecided held (h .transactions) in
+        past-owners R t (h .past)
+        ∙ rw (keep-none (named t) progress (p .0), eq-eqb t t refl, keep-none (named t) held (p .1))
+
+    -- The oldest held request is accepted,
+    pub accepted : (n : ℕ) → Tied s progress (slot t g e undecided ∷ held) lines → decide R e s progress .verdict ≡ accept
+        → Tied s (progress ++ (slot t g e undecided ∷ [])) held (note lines (vote accept t g e n)) × Owned R lines (voted accept t g e n)
+    accepted n h v =
+        let p = apart-at progress t g e undecided held (h .transactions) in
+        let q = decide-accept e s progress v in (
+          record {
+            past = past-noting R t (ongoing undecided) 0 (λ lines′ l. live-accept t g e undecided l (p .0) (p .1)) (h .past);
+            safe = safe-accept R t g e progress s (h .safe) (every-tally R progress e s (q .1));
+            transactions = rw (append-assoc progress (slot t g e undecided ∷ []) held) (h .transactions);
+            few = rw (length-append progress (slot t g e undecided ∷ [])) (omega (arith, q .0));
+            fewHeld = omega (arith, h .fewHeld);
+          },
+          oldest-owner h,
+        )
+
+    -- or it is rejected.
+    pub rejected : (n : ℕ) → Tied s progress (slot t g e undecided ∷ held) lines
+        → Tied s progress held (note lines (vote reject t g e n)) × Owned R lines (voted reject t g e n)
+    rejected n h =
+        let p = apart-at progress t g e undecided held (h .transactions) in (
+          record {
+            past = past-noting R t votedNo 0 (λ lines′ l. live-reject t g e undecided l (p .0) (p .1)) (h .past);
+            safe = h .safe;
+            transactions = apart-less progress (slot t g e undecided) held (h .transactions);
+            few = h .few;
+            fewHeld = omega (arith, h .fewHeld);
+          },
+          oldest-owner h,
+        )
+
+  pub oldest-append : (progress : List (Slot G E)) (t : ℕ) (g : G) (e : E) → oldestUndecided progress ≡ true → oldestUndecided (progress ++ (slot t g e undecided ∷ [])) ≡ true
+  oldest-append [] t g e h = refl
+  oldest-append (slot t′ g′ e′ undecided ∷ progress) t g e h = refl
+  oldest-append (slot t′ g′ e′ committed ∷ progress) t g e h = absurd (false≢true h)
+
+  -- Draining: the oldest held request by its verdict, and the rest by induction.
+  drained : (s : S) (held progress : List (Slot G E)) (lines : List (Line G E))
+      → Tied s progress held lines → oldestUndecided progress ≡ true → Done lines (drain R s progress held)
+  drained s [] progress lines h o = (record { tied = h; oldest = o; stays = refl }, tt)
+  drained s (slot t g e d ∷ held) progress lines h o =
+      decided (sym (past-undecided R (h .past))) (decide R e s progress .verdict) (decide R e s progress .weighed) refl h
+      (λ progress′ lines′ h′ o′. drained s held progress′ lines′ h′ o′)
+    where
+      Goal : Decision → Verdict → ℕ → Type 0
+      Goal d′ v n = Done lines (drainBy v n (slot t g e d′) s progress held (λ (progress′ : List (Slot G E)). drain R s progress′ held))
+
+      by : (v : Verdict) (n : ℕ) → decide R e s progress .verdict ≡ v → Tied s progress (slot t g e undecided ∷ held) lines
+          → ((progress′ : List (Slot G E)) (lines′ : List (Line G E)) → Tied s progress′ held lines′ → oldestUndecided progress′ ≡ true → Done lines′ (drain R s progress′ held))
+          → Goal undecided v n
+      by accept n v h′ rest =
+          let k = accepted s progress held t g e lines n h′ v in
+          let r = rest (progress ++ (slot t g e undecided ∷ [])) (note lines (vote accept t g e n)) (k .0) (oldest-append progress t g e o) in
+          (r .0, (k .1, r .1))
+      by reject n v h′ rest =
+          let k = rejected s progress held t g e lines n h′ in
+          let r = rest progress (note lines (vote reject t g e n)) (k .0) o in
+          (r .0, (k .1, r .1))
+      by hold n v h′ rest = (record { tied = h′; oldest = o; stays = rw v }, tt)
+
+      decided : undecided ≡ d → (v : Verdict) (n : ℕ) → decide R e s progress .verdict ≡ v → Tied s progress (slot t g e d ∷ held) lines
+          → ((progress′ : List (Slot G E)) (lines′ : List (Line G E)) → Tied s progress′ held lines′ → oldestUndecided progress′ ≡ true → Done lines′ (drain R s progress′ held))
+          → Goal d v n
+      decided same v n k h′ rest =
+          subst (λ (d′ : Decision). Goal d′ v n) same
+          (by v n k (subst (λ (d′ : Decision). Tied s progress (slot t g e d′ ∷ held) lines) (sym same) h′) rest)
+
+  -- The state so far is the run of the events applied, and one event more brings its effect.
+  live-applied : {lines : List (Line G E)} {progress held : List (Slot G E)} → Live lines progress held → appliedEvents lines ≡ []
+  live-applied (held-then w) = waited w
+    where
+      waited : {lines′ : List (Line G E)} {held′ : List (Slot G E)} → Wait lines′ held′ → appliedEvents lines′ ≡ []
+      waited no-more = refl
+      waited (gone w′) = waited w′
+      waited (waits w′) = waited w′
+  live-applied (no-then l) = live-applied l
+  live-applied (dropped-then l) = live-applied l
+  live-applied (going-then l) = live-applied l
+
+  run-then : (e : E) {s s′ : S} {lines : List (Line G E)} {progress held : List (Slot G E)}
+      → Past R s lines s′ progress held → run R (appliedEvents lines ++ (e ∷ [])) s ≡ R .effect e s′
+  run-then e (live-then l) = rw (live-applied l)
+  run-then e (no-past l) = run-then e l
+  run-then e (dropped-past l) = run-then e l
+  run-then e (applied-past q l) = run-then e l
+
+  -- Settling: the oldest event, if committed, is applied, and the rest by induction; then the held requests are drained.
+  pub settled : (progress : List (Slot G E)) (s : S) (held : List (Slot G E)) (lines : List (Line G E))
+      → Tied s progress held lines → Done lines (settle R s progress held)
+  unfolding settle
+  settled [] s held lines h = drained s held [] lines h refl
+  settled (slot t g e undecided ∷ progress) s held lines h = drained s held (slot t g e undecided ∷ progress) lines h refl
+  settled (slot t g e committed ∷ progress) s held lines h =
+      let far = apart-at [] t g e committed (progress ++ held) (h .transactions) .1 in
+      let both : (some-of (named t) progress || some-of (named t) held) ≡ false = sym (some-append (named t) progress held) ∙ far in
+      let p = or-left (some-of (named t) progress) (some-of (named t) held) both in
+      let q = or-right (some-of (named t) progress) (some-of (named t) held) both in
+      let r =
+      settled progress (R .effect e s) held (note lines (ending t g e (R .shown (R .effect e s))))
+      (record {
+        past = past-apply R t g e (h .past) (h .safe .0) p q;
+        safe = h .safe .1;
+        transactions = apart-less [] (slot t g e committed) (progress ++ held) (h .transactions);
+        few = omega (arith, h .few);
+        fewHeld = h .fewHeld;
+      })
+      in (
+        r .0,
+        (
+          (past-owners R t (h .past) ∙ rw (eq-eqb t t refl, keep-none (named t) progress p, keep-none (named t) held q), ap (R .shown) (sym (run-then e (h .past)))),
+          r .1,
+        ),
+      )
+    where
+      ending : ℕ → G → E → B → Entry G E B
+      ending t′ g′ e′ b = applied t′ g′ e′ b

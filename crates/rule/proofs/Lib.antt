@@ -1,0 +1,14 @@
+pub mod Lists
+pub mod Outcomes
+pub mod Exact
+pub mod Safe
+pub mod Ties
+pub mod Apart
+pub mod Good
+pub mod Taken
+pub mod Reached
+pub mod Order
+pub mod Demand
+pub mod Filed
+pub mod Refusals
+pub mod Written

@@ -1,0 +1,53 @@
+-- Every list of messages to a new account, refused ones included, leads to an account at rest, and every entry on the way has its owner: by induction on the messages.
+-- Assumes nothing.
+use Prim.Native.Nat.{ℕ, zero}
+use mathlib.Core.Path.{_≡_, refl}
+use mathlib.Core.List.{List, [], _∷_}
+use mathlib.Core.Option.{Option, none, some}
+use native.Mathlib.Omega.{arith}
+use Rattle.rule.specs.Rule.{Rule, Account, Message, newAccount}
+use Rattle.rule.specs.Step.{step}
+use Rattle.rule.specs.Call.{Called, refusal, refused, taken, written, callBy, call, reached}
+use Rattle.rule.specs.History.{Line, begun, afterCall, history, linesFrom}
+use Rattle.rule.specs.Demand.{AllOwned, HistoryOwned}
+use Rattle.rule.proofs.Ties.{no-more, held-then, live-then}
+use Rattle.rule.proofs.Good.{Tied, Rest}
+use Rattle.rule.proofs.Taken.{step-good}
+
+module _ {G S E B : Type 0} (R : Rule S E B) where
+  -- what one call keeps
+  Kept : List (Line G E) → Message G E → Called G S E B → Type 0
+  Kept lines m r = Rest R (r .account) (afterCall lines m (r .answer)) × AllOwned R (begun lines m (r .answer)) (written (r .answer))
+
+  call-kept : (a : Account G S E) (m : Message G E) (lines : List (Line G E)) → Rest R a lines → Kept lines m (call R a m)
+  unfolding call Kept
+  call-kept a m lines h = by (refusal R a m) refl
+    where
+      by : (o : Option ℕ) → refusal R a m ≡ o → Kept lines m (callBy o a (step R a m))
+      by (some n) q = (h, tt)
+      by none q = step-good R a m lines h q
+
+  calls-kept : (ms : List (Message G E)) (a : Account G S E) (lines : List (Line G E)) → Rest R a lines
+      → Rest R (reached R a ms) (linesFrom lines (history R a ms)) × HistoryOwned R lines (history R a ms)
+  unfolding Kept
+  calls-kept [] a lines h = (h, tt)
+  calls-kept (m ∷ ms) a lines h =
+      let k = call-kept a m lines h in
+      let r = calls-kept ms (call R a m .account) (afterCall lines m (call R a m .answer)) (k .0) in
+      (r .0, (k .1, r .1))
+
+  -- a new account is at rest, with no lines
+  new-rest : Rest R (newAccount R G) []
+  new-rest =
+      record {
+        tied = record { past = live-then (held-then no-more); safe = tt; transactions = refl; few = omega arith; fewHeld = omega arith };
+        oldest = refl;
+        stays = refl;
+      }
+
+  pub reached-rest : (ms : List (Message G E)) → (lines : List (Line G E)) × Rest R (reached R (newAccount R G) ms) lines
+  reached-rest ms = (linesFrom [] (history R (newAccount R G) ms), calls-kept ms (newAccount R G) [] new-rest .0)
+
+  pub history-kept : (ms : List (Message G E))
+      → Rest R (reached R (newAccount R G) ms) (linesFrom [] (history R (newAccount R G) ms)) × HistoryOwned R [] (history R (newAccount R G) ms)
+  history-kept ms = calls-kept ms (newAccount R G) [] new-rest

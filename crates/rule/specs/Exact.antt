@@ -1,0 +1,56 @@
+-- Weighing is exact: what each verdict says of the outcomes by their numbers; and what the numbers say.
+-- Assumes nothing.
+use Prim.Native.Nat.{ℕ, zero, suc, _<_, _≤_, _^_}
+use mathlib.Core.Path.{_≡_}
+use mathlib.Core.Logic.{_↔_}
+use mathlib.Core.Bool.{Bool, true, false, cond}
+use mathlib.Core.List.{List, [], _∷_}
+use lib.Count.{ones}
+use lib.ListN.{length}
+use Rattle.rule.specs.Rule.{Rule, Slot, slot, undecided, committed, Verdict, accept, reject, hold}
+use Rattle.rule.specs.Outcome.{undecidedOf, appliedIn, bit, outcome, outcomes}
+use Rattle.rule.specs.Weigh.{weigh, unweighed, decide, decideBehind}
+
+module _ {G S E B : Type 0} (R : Rule S E B) where
+  -- the state after the events in progress, where `chosen i` says whether the i-th oldest undecided event, counted from 0, is applied
+  abbrev pub chosenState : List (Slot G E) → (ℕ → Bool) → S → S
+  chosenState [] chosen s = s
+  chosenState (slot t g e undecided ∷ xs) chosen s =
+      chosenState xs (λ (i : ℕ). chosen (suc i)) (cond (chosen zero) (R .effect e s) s)
+  chosenState (slot t g e committed ∷ xs) chosen s = chosenState xs chosen (R .effect e s)
+
+  -- the guard in an outcome, by its number
+  abbrev pub guardIn : E → S → List (Slot G E) → ℕ → Bool
+  guardIn e s xs n = R .guard e (outcome R xs n s)
+
+  -- what the list of outcomes is
+  pub record Numbered (xs : List (Slot G E)) (s : S) : Type 0 where
+    -- "There are 2 to the power u outcomes"
+    pub count : length (outcomes R xs s) ≡ 2 ^ undecidedOf xs
+    -- "Bit i of an outcome's number, lowest first, is set exactly if the i-th oldest undecided event, counted from 0, is applied."
+    pub bits : (n : ℕ) → outcome R xs n s ≡ chosenState xs (bit n) s
+    -- the count of ones is the number of undecided events applied
+    pub applied : (n : ℕ) → n < 2 ^ undecidedOf xs → appliedIn xs n ≡ ones n
+
+  -- "accepted if its guard holds in every outcome, rejected if in none, held if in some only", and each exactly if
+  pub record Exact (e : E) (xs : List (Slot G E)) (s : S) : Type 0 where
+    pub accepted :
+        (weigh R e (outcomes R xs s) ≡ accept)
+        ↔ ((n : ℕ) → n < 2 ^ undecidedOf xs → guardIn e s xs n ≡ true)
+    pub rejected :
+        (weigh R e (outcomes R xs s) ≡ reject)
+        ↔ ((n : ℕ) → n < 2 ^ undecidedOf xs → guardIn e s xs n ≡ false)
+    pub held :
+        (weigh R e (outcomes R xs s) ≡ hold)
+        ↔ (((n : ℕ) × (n < 2 ^ undecidedOf xs) × (guardIn e s xs n ≡ true)) × ((n : ℕ) × (n < 2 ^ undecidedOf xs) × (guardIn e s xs n ≡ false)))
+
+  -- how a request is decided, whatever is in progress and held
+  pub record Decided (e : E) (s : S) (progress held : List (Slot G E)) : Type 0 where
+    -- "held, with 0 outcomes weighed, if a request is already held on the account,
+    pub behind : (held ≡ [] → ⊥) → decideBehind R held e s progress ≡ unweighed
+    -- or 8 events are in progress";
+    pub full : held ≡ [] → R .room ≤ length progress → decideBehind R held e s progress ≡ unweighed
+    -- "otherwise" as it is weighed, with "the number of outcomes weighed, which equals 2 to the power u";
+    pub free : held ≡ [] → length progress < R .room → decideBehind R held e s progress ≡ record { verdict = weigh R e (outcomes R progress s); weighed = 2 ^ undecidedOf progress }
+    -- where nothing is in progress nothing is held
+    pub idle : held ≡ [] → 1 ≤ R .room → progress ≡ [] → decideBehind R held e s progress .verdict ≡ hold → ⊥

@@ -1,0 +1,13 @@
+pub mod Lists
+pub mod Rule
+pub mod Outcome
+pub mod Weigh
+pub mod Step
+pub mod Call
+pub mod Order
+pub mod History
+pub mod Demand
+pub mod Exact
+pub mod Written
+pub mod Refusals
+pub mod Filed

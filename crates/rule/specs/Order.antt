@@ -1,0 +1,72 @@
+-- An account in order, over its lists (document 01, "An account is in order if ..", clause by clause; that blanks are blank is said where there are places).
+-- Assumes nothing.
+use Prim.Native.Nat.{ℕ}
+use mathlib.Core.Path.{_≡_}
+use mathlib.Core.Bool.{Bool, true, false, _&&_, not}
+use mathlib.Core.List.{List, [], _∷_, _++_}
+use lib.Dec.{leb}
+use lib.ListN.{length}
+use Rattle.rule.specs.Lists.{every, some-of}
+use Rattle.rule.specs.Rule.{Rule, Verdict, accept, reject, hold, undecided, committed, Slot, slot, Account}
+use Rattle.rule.specs.Outcome.{outcomes}
+use Rattle.rule.specs.Weigh.{decide}
+use Rattle.rule.specs.Step.{named}
+
+module _ {G E : Type 0} where
+  -- "its transaction numbers in progress and held all differ"
+  abbrev pub apart : List (Slot G E) → Bool
+  apart [] = true
+  apart (slot t g e d ∷ xs) = not (some-of (named t) xs) && apart xs
+
+  -- "its oldest event, if any, is undecided"
+  abbrev pub oldestUndecided : List (Slot G E) → Bool
+  oldestUndecided [] = true
+  oldestUndecided (slot t g e undecided ∷ xs) = true
+  oldestUndecided (slot t g e committed ∷ xs) = false
+
+  -- a held request has no decision
+  abbrev pub withoutDecision : Slot G E → Bool
+  withoutDecision (slot t g e undecided) = true
+  withoutDecision (slot t g e committed) = false
+
+abbrev pub staysHeld : Verdict → Bool
+staysHeld accept = false
+staysHeld reject = false
+staysHeld hold = true
+
+module _ {G S E B : Type 0} (R : Rule S E B) where
+  -- "its counts .. are within limits"
+  abbrev pub countsWithin : Account G S E → Bool
+  countsWithin a = leb (length (a .progress)) (R .room) && leb (length (a .held)) (R .bench)
+
+  -- "each event in progress finds its guard true in every outcome of those before it"
+  abbrev pub guarded : S → (before rest : List (Slot G E)) → Bool
+  guarded s before [] = true
+  guarded s before (slot t g e d ∷ rest) = every (R .guard e) (outcomes R before s) && guarded s (before ++ (slot t g e d ∷ [])) rest
+
+  -- "its oldest held request, if any, would stay held"
+  abbrev pub oldestStaysHeld : S → (progress held : List (Slot G E)) → Bool
+  oldestStaysHeld s progress [] = true
+  oldestStaysHeld s progress (slot t g e d ∷ held) = staysHeld (decide R e s progress .verdict)
+
+  unfoldable pub order : Account G S E → Bool
+  order a =
+      countsWithin a && R .fits (a .state) && apart (a .progress ++ a .held) && every withoutDecision (a .held)
+      && guarded (a .state) [] (a .progress)
+      && oldestUndecided (a .progress)
+      && oldestStaysHeld (a .state) (a .progress) (a .held)
+
+  -- the clauses by their names
+  pub record InOrder (a : Account G S E) : Type 0 where
+    pub counts : countsWithin a ≡ true
+    pub state : R .fits (a .state) ≡ true
+    pub transactions : apart (a .progress ++ a .held) ≡ true
+    pub decisions : every withoutDecision (a .held) ≡ true
+    pub guards : guarded (a .state) [] (a .progress) ≡ true
+    pub oldest : oldestUndecided (a .progress) ≡ true
+    pub stays : oldestStaysHeld (a .state) (a .progress) (a .held) ≡ true
+
+-- a rule whose new account is in order, and whose effects, where the guard holds, lead from a state in order to a state in order
+pub record Sound {S E B : Type 0} (R : Rule S E B) : Type 0 where
+  pub fresh : R .fits (R .fresh) ≡ true
+  pub kept : (e : E) (s : S) → R .guard e s ≡ true → R .fits s ≡ true → R .fits (R .effect e s) ≡ true

@@ -1,0 +1,53 @@
+-- What the commit rule is about: an event with a guard and an effect, an account, a message, an entry (document 01, "An account").
+-- Everything is over any state `S`, any event `E`, anything `G` that is filed with an event and never looked at, and anything `B` that is shown of a state.
+-- Assumes nothing.
+use Prim.Native.Nat.{ℕ}
+use mathlib.Core.Bool.{Bool}
+use mathlib.Core.List.{List, []}
+
+-- the guard and the effect of the events, the state of a new account, what an entry shows of a state, which states are in order,
+-- and how many events may be in progress and how many requests held on one account
+pub record Rule (S E B : Type 0) : Type 0 where
+  pub guard : E → S → Bool
+  pub effect : E → S → S
+  pub fresh : S
+  pub shown : S → B
+  pub fits : S → Bool
+  pub room : ℕ
+  pub bench : ℕ
+
+-- "An event in progress is undecided or committed."
+pub data Decision : Type 0 where
+  undecided committed : Decision
+
+-- an event in progress, or a request held: its transaction, what is filed with it, the event, the decision
+pub data Slot (G E : Type 0) : Type 0 where
+  slot : ℕ → G → E → Decision → Slot G E
+
+-- "The account has up to 8 events in progress and up to 8 requests held, both in arrival order."
+pub record Account (G S E : Type 0) : Type 0 where
+  pub state : S
+  pub progress : List (Slot G E)
+  pub held : List (Slot G E)
+
+-- a message to an account: its transaction, what is filed with it, and the event of a request
+pub data Message (G E : Type 0) : Type 0 where
+  request : ℕ → G → E → Message G E
+  commit : ℕ → G → Message G E
+  abort : ℕ → G → Message G E
+
+-- how a request is decided
+pub data Verdict : Type 0 where
+  accept reject hold : Verdict
+
+-- an entry: of a vote, with the number of outcomes weighed; of a commit; of an event applied, with what is shown of the state after it; of one dropped
+pub data Entry (G E B : Type 0) : Type 0 where
+  voted : Verdict → ℕ → G → E → ℕ → Entry G E B
+  noted : ℕ → G → Entry G E B
+  applied : ℕ → G → E → B → Entry G E B
+  dropped : ℕ → G → E → Entry G E B
+
+module _ {S E B : Type 0} (R : Rule S E B) where
+  -- a new account, with nothing in progress or held
+  abbrev pub newAccount : (G : Type 0) → Account G S E
+  newAccount G = record { state = R .fresh; progress = []; held = [] }

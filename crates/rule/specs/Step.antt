@@ -1,0 +1,114 @@
+-- What a message that is taken does to its account, and the entries that it writes, in their order (document 01, "Weighing a request" and "Bytes").
+-- Assumes nothing.
+use Prim.Native.Nat.{ℕ}
+use mathlib.Core.Bool.{Bool, cond, not}
+use mathlib.Core.List.{List, [], _∷_, _++_, map}
+use lib.Dec.{eqb}
+use Rattle.rule.specs.Lists.{keep}
+use Rattle.rule.specs.Rule.{Rule, Decision, undecided, committed, Slot, slot, Account, Message, request, commit, abort, accept, reject, hold, Verdict, Entry, voted, noted, applied, dropped}
+use Rattle.rule.specs.Weigh.{Weighing, decide, decideBehind}
+
+-- the account that follows, and the entries written on the way
+pub record Step (G S E B : Type 0) : Type 0 where
+  pub account : Account G S E
+  pub entries : List (Entry G E B)
+
+module _ {G E : Type 0} where
+  -- whether the slot is that transaction's
+  abbrev pub named : ℕ → Slot G E → Bool
+  named u (slot t g e d) = eqb u t
+
+  -- "Commit of an undecided event marks it."
+  abbrev pub markOne : ℕ → Slot G E → Slot G E
+  markOne u (slot t g e d) = slot t g e (cond (eqb u t) committed d)
+
+  abbrev pub mark : ℕ → List (Slot G E) → List (Slot G E)
+  mark u xs = map (markOne u) xs
+
+  -- what is left when that transaction's slot is taken out
+  abbrev pub without : ℕ → List (Slot G E) → List (Slot G E)
+  without u xs = keep (λ (x : Slot G E). not (named u x)) xs
+
+-- the entry of a slot that is dropped
+abbrev pub dropping : {G E B : Type 0} → Slot G E → Entry G E B
+dropping (slot t g e d) = dropped t g e
+
+module _ {G S E B : Type 0} where
+  -- the step that writes these entries first
+  abbrev pub after : List (Entry G E B) → Step G S E B → Step G S E B
+  after xs step = record { account = step .account; entries = xs ++ step .entries }
+
+module _ {G S E B : Type 0} (R : Rule S E B) where
+  -- "Then, while the oldest event in progress is committed, its effect is applied and it ends": the state then,
+  abbrev pub settledState : S → List (Slot G E) → S
+  settledState s [] = s
+  settledState s (slot t g e undecided ∷ xs) = s
+  settledState s (slot t g e committed ∷ xs) = settledState (R .effect e s) xs
+
+  -- the entries of the events applied,
+  abbrev pub applications : S → List (Slot G E) → List (Entry G E B)
+  applications s [] = []
+  applications s (slot t g e undecided ∷ xs) = []
+  applications s (slot t g e committed ∷ xs) = applied t g e (R .shown (R .effect e s)) ∷ applications (R .effect e s) xs
+
+-- and what is still in progress
+abbrev pub unsettled : {G E : Type 0} → List (Slot G E) → List (Slot G E)
+unsettled [] = []
+unsettled (slot t g e undecided ∷ xs) = slot t g e undecided ∷ xs
+unsettled (slot t g e committed ∷ xs) = unsettled xs
+
+module _ {G S E B : Type 0} where
+  -- an account with nothing written
+  abbrev pub still : S → List (Slot G E) → List (Slot G E) → Step G S E B
+  still s progress held = record { account = record { state = s; progress = progress; held = held }; entries = [] }
+
+  -- the oldest held request by its verdict: accepted or rejected it has its entry, and `rest` goes on with what is then in progress;
+  -- "if it is to stay held .. this stops, and no entry is made for it"
+  abbrev pub drainBy : Verdict → ℕ → Slot G E → S → List (Slot G E) → List (Slot G E) → (List (Slot G E) → Step G S E B) → Step G S E B
+  drainBy accept n (slot t g e d) s progress held rest = after (voted accept t g e n ∷ []) (rest (progress ++ (slot t g e undecided ∷ [])))
+  drainBy reject n (slot t g e d) s progress held rest = after (voted reject t g e n ∷ []) (rest progress)
+  drainBy hold n x s progress held rest = still s progress (x ∷ held)
+
+-- a request by its verdict: it is in progress, or not at all, or held behind the others
+abbrev pub askedBy : {G S E : Type 0} → Verdict → S → List (Slot G E) → List (Slot G E) → Slot G E → Account G S E
+askedBy accept s progress held x = record { state = s; progress = progress ++ (x ∷ []); held = held }
+askedBy reject s progress held x = record { state = s; progress = progress; held = held }
+askedBy hold s progress held x = record { state = s; progress = progress; held = held ++ (x ∷ []) }
+
+module _ {G S E B : Type 0} (R : Rule S E B) where
+  -- "Then the oldest held request is weighed as if nothing were held: accepted or rejected, and the next one follows;
+  -- if it is to stay held, or 8 are in progress, this stops"
+  abbrev pub drain : S → List (Slot G E) → List (Slot G E) → Step G S E B
+  drain s progress [] = still s progress []
+  drain s progress (slot t g e d ∷ held) =
+      drainBy (decide R e s progress .verdict) (decide R e s progress .weighed) (slot t g e d) s progress held
+      (λ (progress′ : List (Slot G E)). drain s progress′ held)
+
+  -- what follows every commit and abort: the committed oldest are applied, then the held requests are looked at
+  unfoldable pub settle : S → List (Slot G E) → List (Slot G E) → Step G S E B
+  settle s progress held = after (applications R s progress) (drain (settledState R s progress) (unsettled progress) held)
+
+  -- a request: its own entry carries its verdict and the number of outcomes weighed
+  unfoldable pub asked : Account G S E → ℕ → G → E → Step G S E B
+  asked a t g e =
+      let w : Weighing = decideBehind R (a .held) e (a .state) (a .progress) in
+      record {
+        account = askedBy (w .verdict) (a .state) (a .progress) (a .held) (slot t g e undecided);
+        entries = voted (w .verdict) t g e (w .weighed) ∷ [];
+      }
+
+  -- a commit: noted, the event is marked, and the rest follows
+  unfoldable pub committing : Account G S E → ℕ → G → Step G S E B
+  committing a t g = after (noted t g ∷ []) (settle (a .state) (mark t (a .progress)) (a .held))
+
+  -- "Abort of an undecided event takes it out at once; abort of a held request takes it out of holding."
+  unfoldable pub aborting : Account G S E → ℕ → Step G S E B
+  aborting a t =
+      after (map dropping (keep (named t) (a .progress) ++ keep (named t) (a .held)))
+      (settle (a .state) (without t (a .progress)) (without t (a .held)))
+
+  -- a message that is taken
+  abbrev pub step : Account G S E → Message G E → Step G S E B
+  step a (request t g e) = asked a t g e
+  step a (commit t g) = committing a t g
+  step a (abort t g) = aborting a t

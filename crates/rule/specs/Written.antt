@@ -1,0 +1,49 @@
+-- What one call writes: "One call writes, in this order: its own entry (17 to 20 or 22), the applied ones, the entries of held requests now decided." (document 01, "Bytes")
+-- Assumes nothing.
+use Prim.Native.Nat.{ℕ, _+_, _≤_, _<_}
+use mathlib.Core.Path.{_≡_}
+use mathlib.Core.List.{List, [], _∷_, _++_}
+use lib.ListN.{length}
+use Rattle.rule.specs.Rule.{Rule, Account, Message, request, commit, abort, Verdict, accept, reject, hold, Entry, voted, noted, applied, dropped}
+
+module _ {G E B : Type 0} where
+  -- nothing but entries of events applied
+  abbrev pub OnlyApplied : List (Entry G E B) → Type 0
+  OnlyApplied [] = Unit {0}
+  OnlyApplied (voted v t g e n ∷ xs) = ⊥
+  OnlyApplied (noted t g ∷ xs) = ⊥
+  OnlyApplied (applied t g e b ∷ xs) = OnlyApplied xs
+  OnlyApplied (dropped t g e ∷ xs) = ⊥
+
+  -- nothing but votes of yes or no: "if it is to stay held .. no entry is made for it"
+  abbrev pub OnlyDecided : List (Entry G E B) → Type 0
+  OnlyDecided [] = Unit {0}
+  OnlyDecided (voted accept t g e n ∷ xs) = OnlyDecided xs
+  OnlyDecided (voted reject t g e n ∷ xs) = OnlyDecided xs
+  OnlyDecided (voted hold t g e n ∷ xs) = ⊥
+  OnlyDecided (noted t g ∷ xs) = ⊥
+  OnlyDecided (applied t g e b ∷ xs) = ⊥
+  OnlyDecided (dropped t g e ∷ xs) = ⊥
+
+  -- the entries behind a call's own: of at most so many events applied, then of at most so many held requests decided
+  pub record Following (most-applied most-decided : ℕ) (xs : List (Entry G E B)) : Type 0 where
+    pub applications : List (Entry G E B)
+    pub decisions : List (Entry G E B)
+    pub split : xs ≡ applications ++ decisions
+    pub only-applied : OnlyApplied applications
+    pub only-decided : OnlyDecided decisions
+    pub few : length applications ≤ most-applied
+    pub fewDecided : length decisions ≤ most-decided
+
+module _ {G S E B : Type 0} (a : Account G S E) where
+  -- the entries of a message that is taken
+  abbrev pub Shape : Message G E → List (Entry G E B) → Type 0
+  -- a request has its own vote and nothing else
+  Shape (request t g e) xs = (v : Verdict) × (n : ℕ) × (xs ≡ voted v t g e n ∷ [])
+  -- a commit is noted, with its own filing; every event in progress may be applied and every held request decided
+  Shape (commit t g) xs = (rest : List (Entry G E B)) × (xs ≡ noted t g ∷ rest) × Following (length (a .progress)) (length (a .held)) rest
+  -- an abort drops one, with the filing of its request; of those in progress and held one is gone
+  Shape (abort t g) xs =
+      (g′ : G) × (e : E) × (rest : List (Entry G E B)) × (most-applied : ℕ) × (most-decided : ℕ) × (xs ≡ dropped t g′ e ∷ rest)
+      × Following most-applied most-decided rest
+      × (most-applied ≤ length (a .progress)) × (most-decided ≤ length (a .held)) × (most-applied + most-decided < length (a .progress) + length (a .held))
