@@ -63,7 +63,7 @@ ruleOf effect =
       shown = λ (s : State). s .balance;
       fits = stateFits;
       room = room;
-      bench = bench
+      bench = bench;
     }
 
 -- the commit rule of the first panel,
