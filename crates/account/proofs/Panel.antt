@@ -11,7 +11,7 @@ use Rattle.rule.specs.Rule.{Rule, Slot, Account, Message, newAccount}
 use Rattle.rule.specs.Outcome.{outcome}
 use Rattle.rule.specs.Call.{reached}
 use Rattle.rule.specs.Order.{Sound, InOrder, order}
-use Rattle.rule.specs.Demand.{Demand3}
+use Rattle.rule.specs.Demand.{Demand3After}
 use Rattle.rule.proofs.Lists.{and-left, and-right, and-both}
 use Rattle.rule.proofs.Safe.{Safe, outcome-agree}
 use Rattle.rule.proofs.Order.{reached-clauses, reached-order}
@@ -54,5 +54,5 @@ pub panel-order : (ms : List (Message ℕ Event)) → InOrder panel (reached pan
 panel-order ms = reached-clauses panel sound ms
 
 -- and demand 3 holds of it
-pub panel-demand3 : (ms : List (Message ℕ Event)) → Demand3 panel ms
+pub panel-demand3 : (ms : List (Message ℕ Event)) → Demand3After panel ms
 panel-demand3 ms = demand3 panel (lit≤ tt) ms

@@ -15,7 +15,7 @@ use Rattle.rule.specs.Weigh.{decide}
 use Rattle.rule.specs.Call.{Answer, refused, taken, written, reached}
 use Rattle.rule.specs.Order.{oldestUndecided, oldestStaysHeld, staysHeld}
 use Rattle.rule.specs.History.{Fate, waiting, votedNo, ongoing, wasApplied, wasDropped, live, Line, line, owns, owners, touch, note, notes, begun, afterCall, Seen, history, linesFrom, allEntries, isEnd, fateBy}
-use Rattle.rule.specs.Demand.{inProgress, onHold, serial, course, OneEnd, endsOwned, OnlyWaiting, endsWritten, run, GuardsHold, Right, Owned, AllOwned, HistoryOwned, Demand3}
+use Rattle.rule.specs.Demand.{inProgress, onHold, serial, course, OneEnd, endsOwned, OnlyWaiting, endsWritten, run, GuardsHold, Right, Owned, AllOwned, HistoryOwned, Demand3, Demand3After}
 use Rattle.rule.proofs.Outcomes.{total}
 use Rattle.rule.proofs.Exact.{idle-decide}
 use Rattle.rule.proofs.Safe.{Safe, safe-every}
@@ -238,13 +238,16 @@ module _ {G S E B : Type 0} (R : Rule S E B) where
         written-append (written (x .answer)) (allEntries seen),
       )
 
-  -- Demand 3, for every list of messages to a new account, refused ones included, at any room of at least 1.
-  pub demand3 : 1 ≤ R .room → (ms : List (Message G E)) → Demand3 R ms
-  demand3 roomy ms =
-      let k = history-kept R ms in
+  -- Demand 3 of an account at rest whose entries have their owners,
+  pub kept-demand3 : 1 ≤ R .room → (a : Account G S E) (seen : List (Seen G E B)) → Rest R a (linesFrom [] seen) → HistoryOwned R [] seen → Demand3 R a seen
+  kept-demand3 roomy a seen h owned =
       record {
-        right = rest-right roomy (reached R (newAccount R G) ms) (linesFrom [] (history R (newAccount R G) ms)) (k .0);
-        owned = k .1;
-        oneEnd = past-ends (k .0 .tied .past);
-        noOther = omega (arith, ends-history (history R (newAccount R G) ms) [] (k .1));
+        right = rest-right roomy a (linesFrom [] seen) h;
+        owned = owned;
+        oneEnd = past-ends (h .tied .past);
+        noOther = omega (arith, ends-history seen [] owned);
       }
+
+  -- so for every list of messages to a new account, refused ones included, at any room of at least 1.
+  pub demand3 : 1 ≤ R .room → (ms : List (Message G E)) → Demand3After R ms
+  demand3 roomy ms = let k = history-kept R ms in kept-demand3 roomy (reached R (newAccount R G) ms) (history R (newAccount R G) ms) (k .0) (k .1)

@@ -16,11 +16,12 @@ use Rattle.rule.proofs.Taken.{step-good}
 
 module _ {G S E B : Type 0} (R : Rule S E B) where
   -- what one call keeps
-  Kept : List (Line G E) → Message G E → Called G S E B → Type 0
+  abbrev pub Kept : List (Line G E) → Message G E → Called G S E B → Type 0
   Kept lines m r = Rest R (r .account) (afterCall lines m (r .answer)) × AllOwned R (begun lines m (r .answer)) (written (r .answer))
 
-  call-kept : (a : Account G S E) (m : Message G E) (lines : List (Line G E)) → Rest R a lines → Kept lines m (call R a m)
-  unfolding call Kept
+  -- one call on an account at rest
+  pub call-kept : (a : Account G S E) (m : Message G E) (lines : List (Line G E)) → Rest R a lines → Kept lines m (call R a m)
+  unfolding call
   call-kept a m lines h = by (refusal R a m) refl
     where
       by : (o : Option ℕ) → refusal R a m ≡ o → Kept lines m (callBy o a (step R a m))
@@ -29,7 +30,6 @@ module _ {G S E B : Type 0} (R : Rule S E B) where
 
   calls-kept : (ms : List (Message G E)) (a : Account G S E) (lines : List (Line G E)) → Rest R a lines
       → Rest R (reached R a ms) (linesFrom lines (history R a ms)) × HistoryOwned R lines (history R a ms)
-  unfolding Kept
   calls-kept [] a lines h = (h, tt)
   calls-kept (m ∷ ms) a lines h =
       let k = call-kept a m lines h in
@@ -37,7 +37,7 @@ module _ {G S E B : Type 0} (R : Rule S E B) where
       (r .0, (k .1, r .1))
 
   -- a new account is at rest, with no lines
-  new-rest : Rest R (newAccount R G) []
+  pub new-rest : Rest R (newAccount R G) []
   new-rest =
       record {
         tied = record { past = live-then (held-then no-more); safe = tt; transactions = refl; few = omega arith; fewHeld = omega arith };

@@ -142,14 +142,18 @@ module _ {G S E B : Type 0} (R : Rule S E B) where
       AllOwned (begun lines (seen .message) (seen .answer)) (written (seen .answer))
       × HistoryOwned (afterCall lines (seen .message) (seen .answer)) rest
 
-  -- Demand 3 of one account: after every list of messages to a new account, refused ones included,
-  pub record Demand3 (ms : List (Message G E)) : Type 0 where
+  -- Demand 3 of one account and what has been seen of it since it was new:
+  pub record Demand3 (a : Account G S E) (seen : List (Seen G E B)) : Type 0 where
     -- the lines are right,
-    pub right : Right (reached R (newAccount R G) ms) (linesFrom [] (history R (newAccount R G) ms))
+    pub right : Right a (linesFrom [] seen)
     -- every entry has its owner,
-    pub owned : HistoryOwned [] (history R (newAccount R G) ms)
+    pub owned : HistoryOwned [] seen
     -- "Each accepted event that has ended has exactly one entry of its end among the entries of all calls": one belongs to each line that has ended,
     -- none to any other,
-    pub oneEnd : OneEnd (linesFrom [] (history R (newAccount R G) ms))
+    pub oneEnd : OneEnd (linesFrom [] seen)
     -- and there is no entry of an end beyond these
-    pub noOther : endsWritten (allEntries (history R (newAccount R G) ms)) ≡ endsOwned (linesFrom [] (history R (newAccount R G) ms))
+    pub noOther : endsWritten (allEntries seen) ≡ endsOwned (linesFrom [] seen)
+
+  -- after every list of messages to a new account, refused ones included
+  abbrev pub Demand3After : List (Message G E) → Type 0
+  Demand3After ms = Demand3 (reached R (newAccount R G) ms) (history R (newAccount R G) ms)
