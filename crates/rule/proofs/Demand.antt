@@ -15,7 +15,8 @@ use Rattle.rule.specs.Weigh.{decide}
 use Rattle.rule.specs.Call.{Answer, refused, taken, written, reached}
 use Rattle.rule.specs.Order.{oldestUndecided, oldestStaysHeld, staysHeld}
 use Rattle.rule.specs.History.{Fate, waiting, votedNo, ongoing, wasApplied, wasDropped, live, Line, line, owns, owners, touch, note, notes, begun, afterCall, Seen, history, linesFrom, allEntries, isEnd, fateBy}
-use Rattle.rule.specs.Demand.{inProgress, onHold, serial, course, OneEnd, endsOwned, OnlyWaiting, endsWritten, run, GuardsHold, Right, Owned, AllOwned, HistoryOwned, Demand3, Demand3After}
+use Rattle.rule.specs.Run.{run, GuardsHold}
+use Rattle.rule.specs.Demand.{inProgress, onHold, serial, course, OneEnd, endsOwned, OnlyWaiting, endsWritten, Right, Owned, AllOwned, HistoryOwned, Demand3, Demand3After}
 use Rattle.rule.proofs.Outcomes.{total}
 use Rattle.rule.proofs.Exact.{idle-decide}
 use Rattle.rule.proofs.Safe.{Safe, safe-every}

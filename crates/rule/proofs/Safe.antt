@@ -4,7 +4,7 @@
 use Prim.Native.Nat.{ℕ, zero, suc, _+_, _/_, _%_}
 use mathlib.Core.Path.{_≡_, refl, sym, _∙_, ap}
 use mathlib.Core.Bool.{Bool, true, false, cond, not, _&&_, _||_, true≢false, false≢true}
-use mathlib.Core.List.{List, [], _∷_, _++_, append-assoc}
+use mathlib.Core.List.{List, [], _∷_, _++_, append-assoc, append-nil}
 use native.Mathlib.Omega.{arith}
 use lib.Dec.{eqb}
 use Rattle.rule.specs.Lists.{every, some-of, keep}
@@ -13,7 +13,7 @@ use Rattle.rule.specs.Outcome.{outcome, outcomes}
 use Rattle.rule.specs.Step.{named, mark, without, settledState, unsettled}
 use Rattle.rule.specs.Call.{namedCommitted}
 use Rattle.rule.specs.Order.{guarded}
-use Rattle.rule.proofs.Lists.{and-both, or-left, or-right}
+use Rattle.rule.proofs.Lists.{and-left, and-right, and-both, or-left, or-right}
 use Rattle.rule.proofs.Outcomes.{tally, total, total-tally, no-of, every-no, no-every}
 
 -- a test that holds is no vote of no, and the other way round
@@ -59,12 +59,13 @@ module _ {G S E B : Type 0} (R : Rule S E B) where
 
   -- an acceptance adds a leaf at which no outcome votes no
   pub safe-accept :
-      (t : ℕ) (g : G) (e : E) (xs : List (Slot G E)) (s : S)
-      → Safe xs s → tally R (no-of (R .guard e)) xs s ≡ zero → Safe (xs ++ (slot t g e undecided ∷ [])) s
-  safe-accept t g e [] s h v = (no-zero (R .guard e s) v, tt, tt)
-  safe-accept t g e (slot t′ g′ e′ undecided ∷ xs) s h v =
-      (h .0, safe-accept t g e xs s (h .1) (omega arith), safe-accept t g e xs (R .effect e′ s) (h .2) (omega arith))
-  safe-accept t g e (slot t′ g′ e′ committed ∷ xs) s h v = (h .0, safe-accept t g e xs (R .effect e′ s) (h .1) v)
+      (t : ℕ) (g : G) (e : E) (d : Decision) (xs : List (Slot G E)) (s : S)
+      → Safe xs s → tally R (no-of (R .guard e)) xs s ≡ zero → Safe (xs ++ (slot t g e d ∷ [])) s
+  safe-accept t g e undecided [] s h v = (no-zero (R .guard e s) v, tt, tt)
+  safe-accept t g e committed [] s h v = (no-zero (R .guard e s) v, tt)
+  safe-accept t g e d (slot t′ g′ e′ undecided ∷ xs) s h v =
+      (h .0, safe-accept t g e d xs s (h .1) (omega arith), safe-accept t g e d xs (R .effect e′ s) (h .2) (omega arith))
+  safe-accept t g e d (slot t′ g′ e′ committed ∷ xs) s h v = (h .0, safe-accept t g e d xs (R .effect e′ s) (h .1) v)
 
   -- an application takes the head away
   pub safe-settled : (xs : List (Slot G E)) (s : S) → Safe xs s → Safe (unsettled xs) (settledState R s xs)
@@ -91,13 +92,21 @@ module _ {G S E B : Type 0} (R : Rule S E B) where
   pub every-tally : (xs : List (Slot G E)) (e : E) (s : S) → every (R .guard e) (outcomes R xs s) ≡ true → tally R (no-of (R .guard e)) xs s ≡ zero
   every-tally xs e s h = sym (total-tally R (no-of (R .guard e)) xs s) ∙ every-no (R .guard e) (outcomes R xs s) h
 
-  -- the clause of "in order"
+  -- the clause of "in order" says the same
   pub safe-guarded : (s : S) (before rest : List (Slot G E)) → Safe (before ++ rest) s → guarded R s before rest ≡ true
   safe-guarded s before [] h = refl
   safe-guarded s before (slot t g e d ∷ rest) h =
       and-both (every (R .guard e) (outcomes R before s)) (guarded R s (before ++ (slot t g e d ∷ [])) rest)
       (safe-every before t g e d rest s h)
       (safe-guarded s (before ++ (slot t g e d ∷ [])) rest (rw (append-assoc before (slot t g e d ∷ []) rest) h))
+
+  pub guarded-safe : (s : S) (before rest : List (Slot G E)) → Safe before s → guarded R s before rest ≡ true → Safe (before ++ rest) s
+  guarded-safe s before [] h q = rw (append-nil before) h
+  guarded-safe s before (slot t g e d ∷ rest) h q =
+      rw (← append-assoc before (slot t g e d ∷ []) rest)
+      (guarded-safe s (before ++ (slot t g e d ∷ [])) rest
+      (safe-accept t g e d before s h (every-tally before e s (and-left (every (R .guard e) (outcomes R before s)) (guarded R s (before ++ (slot t g e d ∷ [])) rest) q)))
+      (and-right (every (R .guard e) (outcomes R before s)) (guarded R s (before ++ (slot t g e d ∷ [])) rest) q))
 
 -- two rules whose effects agree wherever the guard holds have the same outcomes of safe events
 module _ {G S E B : Type 0} (R Q : Rule S E B) (same : (e : E) (s : S) → R .guard e s ≡ true → Q .effect e s ≡ R .effect e s) where

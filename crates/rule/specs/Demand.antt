@@ -8,6 +8,7 @@ use mathlib.Core.List.{List, [], _∷_, _++_, map}
 use Rattle.rule.specs.Lists.{every}
 use Rattle.rule.specs.Rule.{Rule, Decision, undecided, committed, Slot, slot, Account, Message, Entry, voted, noted, applied, dropped, newAccount}
 use Rattle.rule.specs.Outcome.{outcomes}
+use Rattle.rule.specs.Run.{run, GuardsHold}
 use Rattle.rule.specs.Call.{Answer, written, reached}
 use Rattle.rule.specs.History.{Fate, waiting, votedNo, ongoing, wasApplied, wasDropped, Line, line, owners, note, begun, afterCall, Seen, history, linesFrom, allEntries, isEnd}
 
@@ -84,17 +85,6 @@ module _ {G E : Type 0} where
 abbrev pub endsWritten : {G E B : Type 0} → List (Entry G E B) → ℕ
 endsWritten [] = 0
 endsWritten (x ∷ xs) = isEnd x + endsWritten xs
-
-module _ {S E B : Type 0} (R : Rule S E B) where
-  -- the serial run of some events
-  abbrev pub run : List E → S → S
-  run [] s = s
-  run (e ∷ es) s = run es (R .effect e s)
-
-  -- "Every guard holds at its place in that run."
-  abbrev pub GuardsHold : List E → S → Type 0
-  GuardsHold [] s = Unit {0}
-  GuardsHold (e ∷ es) s = (R .guard e s ≡ true) × GuardsHold es (R .effect e s)
 
 module _ {G S E B : Type 0} (R : Rule S E B) where
   -- The lines are right.

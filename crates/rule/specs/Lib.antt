@@ -4,6 +4,7 @@ pub mod Outcome
 pub mod Weigh
 pub mod Step
 pub mod Call
+pub mod Run
 pub mod Order
 pub mod History
 pub mod Demand

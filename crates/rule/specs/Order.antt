@@ -9,6 +9,7 @@ use lib.ListN.{length}
 use Rattle.rule.specs.Lists.{every, some-of}
 use Rattle.rule.specs.Rule.{Rule, Verdict, accept, reject, hold, undecided, committed, Slot, slot, Account}
 use Rattle.rule.specs.Outcome.{outcomes}
+use Rattle.rule.specs.Run.{run, GuardsHold}
 use Rattle.rule.specs.Weigh.{decide}
 use Rattle.rule.specs.Step.{named}
 
@@ -66,7 +67,9 @@ module _ {G S E B : Type 0} (R : Rule S E B) where
     pub oldest : oldestUndecided (a .progress) ≡ true
     pub stays : oldestStaysHeld (a .state) (a .progress) (a .held) ≡ true
 
--- a rule whose new account is in order, and whose effects, where the guard holds, lead from a state in order to a state in order
+-- a rule whose states in order are just those that a run of events leads to, each with its guard true: the new account's state is one;
+-- an event whose guard holds leads from one to another; and a run leads to each of them
 pub record Sound {S E B : Type 0} (R : Rule S E B) : Type 0 where
   pub fresh : R .fits (R .fresh) ≡ true
   pub kept : (e : E) (s : S) → R .guard e s ≡ true → R .fits s ≡ true → R .fits (R .effect e s) ≡ true
+  pub reachable : (s : S) → R .fits s ≡ true → (es : List E) × GuardsHold R es (R .fresh) × (run R es (R .fresh) ≡ s)
