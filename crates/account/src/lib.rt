@@ -1,4 +1,7 @@
 // The first panel: the events of an account, its state, its places, and the account itself.
+mod order;
+mod question;
+mod weighing;
 
 // An event, with its amount of adjustment steps.
 pub enum Event {

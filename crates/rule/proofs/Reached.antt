@@ -2,13 +2,13 @@
 -- Assumes nothing.
 use Prim.Native.Nat.{ℕ, zero}
 use mathlib.Core.Path.{_≡_, refl}
-use mathlib.Core.List.{List, [], _∷_}
+use mathlib.Core.List.{List, [], _∷_, _++_}
 use mathlib.Core.Option.{Option, none, some}
 use native.Mathlib.Omega.{arith}
 use Rattle.rule.specs.Rule.{Rule, Account, Message, newAccount}
 use Rattle.rule.specs.Step.{step}
 use Rattle.rule.specs.Call.{Called, refusal, refused, taken, written, callBy, call, reached}
-use Rattle.rule.specs.History.{Line, begun, afterCall, history, linesFrom}
+use Rattle.rule.specs.History.{Line, begun, afterCall, Seen, history, linesFrom}
 use Rattle.rule.specs.Demand.{AllOwned, HistoryOwned}
 use Rattle.rule.proofs.Ties.{no-more, held-then, live-then}
 use Rattle.rule.proofs.Good.{Tied, Rest}
@@ -51,3 +51,38 @@ module _ {G S E B : Type 0} (R : Rule S E B) where
   pub history-kept : (ms : List (Message G E))
       → Rest R (reached R (newAccount R G) ms) (linesFrom [] (history R (newAccount R G) ms)) × HistoryOwned R [] (history R (newAccount R G) ms)
   history-kept ms = calls-kept ms (newAccount R G) [] new-rest
+
+-- One call more at the end of what has been seen.
+lines-more : {G E B : Type 0} (seen : List (Seen G E B)) (x : Seen G E B) (lines : List (Line G E))
+    → linesFrom lines (seen ++ (x ∷ [])) ≡ afterCall (linesFrom lines seen) (x .message) (x .answer)
+lines-more [] x lines = refl
+lines-more (y ∷ seen) x lines = lines-more seen x (afterCall lines (y .message) (y .answer))
+
+owned-more : {G S E B : Type 0} (R : Rule S E B) (seen : List (Seen G E B)) (x : Seen G E B) (lines : List (Line G E)) → HistoryOwned R lines seen
+    → AllOwned R (begun (linesFrom lines seen) (x .message) (x .answer)) (written (x .answer)) → HistoryOwned R lines (seen ++ (x ∷ []))
+owned-more R [] x lines h k = (k, tt)
+owned-more R (y ∷ seen) x lines h k = (h .0, owned-more R seen x (afterCall lines (y .message) (y .answer)) (h .1) k)
+
+-- at rest, and every entry seen has its owner
+pub record Told {G S E B : Type 0} (R : Rule S E B) (a : Account G S E) (seen : List (Seen G E B)) : Type 0 where
+  pub rest : Rest R a (linesFrom [] seen)
+  pub owned : HistoryOwned R [] seen
+
+module _ {G S E B : Type 0} (R : Rule S E B) where
+  pub new-told : Told R (newAccount R G) []
+  new-told = record { rest = new-rest R; owned = tt }
+
+  -- a call of the rule is seen,
+  pub call-told : (a : Account G S E) (seen : List (Seen G E B)) (m : Message G E) → Told R a seen
+      → Told R (call R a m .account) (seen ++ (record { message = m; answer = call R a m .answer } ∷ []))
+  call-told a seen m h =
+      let x : Seen G E B = record { message = m; answer = call R a m .answer } in
+      let k = call-kept R a m (linesFrom [] seen) (h .rest) in
+      record { rest = rw (lines-more seen x []) (k .0); owned = owned-more R seen x [] (h .owned) (k .1) }
+
+  -- and so is a refusal of any number, which changes nothing
+  pub refusal-told : (a : Account G S E) (seen : List (Seen G E B)) (m : Message G E) (n : ℕ) → Told R a seen
+      → Told R a (seen ++ (record { message = m; answer = refused n } ∷ []))
+  refusal-told a seen m n h =
+      let x : Seen G E B = record { message = m; answer = refused n } in
+      record { rest = rw (lines-more seen x []) (h .rest); owned = owned-more R seen x [] (h .owned) tt }

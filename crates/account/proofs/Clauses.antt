@@ -1,0 +1,163 @@
+-- The clauses of order, a place at a time: each goes on past a place that keeps it and ends at one that does not.
+-- Assumes nothing.
+use Prim.Native.Nat.{ℕ, _+_, _<_, _≤_}
+use mathlib.Core.Path.{_≡_, refl, sym, _∙_, ap}
+use mathlib.Core.Bool.{Bool, true, false, cond, _&&_, _||_, not, false≢true}
+use mathlib.Core.List.{List, [], _∷_, _++_}
+use native.Mathlib.Omega.{arith}
+use lib.Dec.{leb, eqb}
+use lib.ListN.{length, getD}
+use borrow.Author.Tests.{le-leb, lt-leb, leb-true}
+use Rattle.rule.specs.Lists.{every, some-of}
+use Rattle.rule.specs.Rule as rule
+use Rattle.rule.specs.Outcome.{outcomes}
+use Rattle.rule.specs.Weigh.{weigh, decide}
+use Rattle.rule.specs.Step.{named}
+use Rattle.rule.specs.Order as rule-order
+use Rattle.rule.proofs.Lists.{some-append}
+use Rattle.account.specs.declared.Event.{Event}
+use Rattle.account.specs.declared.Decision.{Decision}
+use Rattle.account.specs.declared.Decision.the-variants.{Undecided, Committed}
+use Rattle.account.specs.declared.State.{State}
+use Rattle.account.specs.declared.Slot.{Slot}
+use Rattle.account.specs.declared.Account.{Account}
+use Rattle.account.specs.declared.weighing.Verdict.{Verdict}
+use Rattle.account.specs.declared.weighing.Verdict.the-variants.{Accept, Reject, Hold}
+use Rattle.account.specs.declared.weighing.Weighing.{Weighing}
+use Rattle.account.specs.Panel.{limit, isOpened, guardOf, stateFits, panel}
+use Rattle.account.specs.Places.{RuleSlot, slotOf, decisionOf, used}
+use Rattle.account.specs.Order.{isUndecided, orderOf}
+use Rattle.account.specs.Weighing.{verdictOf, weighingOf}
+use Rattle.account.specs.Clauses.{isAccept, isHold, apartBeside, listed}
+use Rattle.account.proofs.Slices.{usedFrom, used-next, used-more}
+
+module _ {A : Type 0} (p : A → Bool) (x : A) (xs l : List A) (next : l ≡ x ∷ xs) where
+  pub every-next : p x ≡ true → every p xs ≡ every p l
+  every-next h = rw (next, h)
+
+  pub every-stop : p x ≡ false → false ≡ every p l
+  every-stop h = rw (next, h)
+
+  pub some-next : p x ≡ false → some-of p xs ≡ some-of p l
+  some-next h = rw (next, h)
+
+  pub some-stop : p x ≡ true → true ≡ some-of p l
+  some-stop h = rw (next, h)
+
+-- "a new or closed account has balance 0": it is opened, or its balance is 0
+pub fits-same : (s : State) → (leb (s .balance) limit && (isOpened (s .life) || eqb (s .balance) 0)) ≡ stateFits s
+fits-same s = ap (λ (b : Bool). leb (s .balance) limit && b) (or-cond (isOpened (s .life)) (eqb (s .balance) 0))
+  where
+    or-cond : (a b : Bool) → (a || b) ≡ cond a true b
+    or-cond true b = refl
+    or-cond false b = refl
+
+-- a test of the rule's slot is one of the place's own fields
+no-decision : (d : Decision) (t g : ℕ) (e : Event) → rule-order.withoutDecision (rule.slot t g e (decisionOf d)) ≡ isUndecided d
+no-decision Undecided t g e = refl
+no-decision Committed t g e = refl
+
+pub without-decision : (x : Slot) → rule-order.withoutDecision (slotOf x) ≡ isUndecided (x .decision)
+without-decision x = no-decision (x .decision) (x .transaction) (x .second) (x .event)
+
+first-decision : (d : Decision) (t g : ℕ) (e : Event) (xs : List RuleSlot) → rule-order.oldestUndecided (rule.slot t g e (decisionOf d) ∷ xs) ≡ isUndecided d
+first-decision Undecided t g e xs = refl
+first-decision Committed t g e xs = refl
+
+pub oldest-decision : (x : Slot) (xs : List RuleSlot) → rule-order.oldestUndecided (slotOf x ∷ xs) ≡ isUndecided (x .decision)
+oldest-decision x xs = first-decision (x .decision) (x .transaction) (x .second) (x .event) xs
+
+-- transactions apart: those of the places from each other and from the others, and the others from each other
+pub apart-both : (xs ys : List RuleSlot) → rule-order.apart (xs ++ ys) ≡ (apartBeside xs ys && rule-order.apart ys)
+apart-both [] ys = refl
+apart-both (rule.slot t g e d ∷ xs) ys = rw (some-append (named t) xs ys, apart-both xs ys) (sym (and-assoc (not (some-of (named t) xs || some-of (named t) ys)) (apartBeside xs ys) (rule-order.apart ys)))
+  where
+    and-assoc : (a b c : Bool) → (a && b && c) ≡ (a && (b && c))
+    and-assoc true b c = refl
+    and-assoc false b c = refl
+
+pub apart-alone : (xs : List RuleSlot) → apartBeside xs [] ≡ rule-order.apart xs
+apart-alone [] = refl
+apart-alone (rule.slot t g e d ∷ xs) = rw (or-none (some-of (named t) xs), apart-alone xs)
+  where
+    or-none : (a : Bool) → (a || false) ≡ a
+    or-none true = refl
+    or-none false = refl
+
+module _ (x : Slot) (xs ys l : List RuleSlot) (next : l ≡ slotOf x ∷ xs) where
+  pub apart-next : (some-of (named (x .transaction)) xs || some-of (named (x .transaction)) ys) ≡ false → apartBeside xs ys ≡ apartBeside l ys
+  apart-next h = rw (next, h)
+
+  pub apart-stop : (some-of (named (x .transaction)) xs || some-of (named (x .transaction)) ys) ≡ true → false ≡ apartBeside l ys
+  apart-stop h = rw (next, h)
+
+-- what a decision of the code says of the guard
+ruleAccept : rule.Verdict → Bool
+ruleAccept rule.accept = true
+ruleAccept rule.reject = false
+ruleAccept rule.hold = false
+
+accept-same : (v : Verdict) → isAccept v ≡ ruleAccept (verdictOf v)
+unfolding ruleAccept
+accept-same Accept = refl
+accept-same Reject = refl
+accept-same Hold = refl
+
+accept-every : (a b : Bool) → ruleAccept (cond a rule.accept (cond b rule.hold rule.reject)) ≡ a
+unfolding ruleAccept
+accept-every true b = refl
+accept-every false true = refl
+accept-every false false = refl
+
+module _ (w : Weighing) (e : Event) (s : State) (xs : List RuleSlot) (decided : weighingOf w ≡ decide panel e s xs) where
+  -- a request that finds a free place is accepted exactly if its guard holds in every outcome
+  pub accepted : length xs < 8 → isAccept (w .verdict) ≡ every (guardOf e) (outcomes panel xs s)
+  unfolding decide weigh
+  accepted h =
+      let chosen : verdictOf (w .verdict) ≡ decide panel e s xs .verdict = ap (λ v. v .verdict) decided in
+      accept-same (w .verdict) ∙ ap ruleAccept chosen ∙ rw (lt-leb 8 (length xs) h) (accept-every (every (guardOf e) (outcomes panel xs s)) (some-of (guardOf e) (outcomes panel xs s)))
+
+  hold-same : (v : Verdict) → isHold v ≡ rule-order.staysHeld (verdictOf v)
+  hold-same Accept = refl
+  hold-same Reject = refl
+  hold-same Hold = refl
+
+  pub stays : isHold (w .verdict) ≡ rule-order.staysHeld (decide panel e s xs .verdict)
+  stays = hold-same (w .verdict) ∙ ap (λ v. rule-order.staysHeld (v .verdict)) decided
+
+module _ (s : State) (n : ℕ) (places : List Slot) (at : ℕ) (d : Slot) (more : at < n) (fits : n ≤ length places) where
+  abbrev x : Slot
+  x = getD places at d
+
+  abbrev before : List RuleSlot
+  before = used places at
+
+  step : rule-order.guarded panel s before (usedFrom at n places)
+      ≡ (every (guardOf (x .event)) (outcomes panel before s) && rule-order.guarded panel s (used places (at + 1)) (usedFrom (at + 1) n places))
+  step = rw (used-next n places at d more fits, used-more places at d (omega arith))
+
+  pub guarded-next : every (guardOf (x .event)) (outcomes panel before s) ≡ true
+      → rule-order.guarded panel s (used places (at + 1)) (usedFrom (at + 1) n places) ≡ rule-order.guarded panel s before (usedFrom at n places)
+  guarded-next h = rw (step, h)
+
+  pub guarded-stop : every (guardOf (x .event)) (outcomes panel before s) ≡ false → false ≡ rule-order.guarded panel s before (usedFrom at n places)
+  guarded-stop h = rw (step, h)
+
+-- the clauses together
+pub order-lists : (s : State) (xs ys : List RuleSlot) → length xs ≤ 8 → length ys ≤ 8
+    → (stateFits s && (apartBeside xs ys && apartBeside ys []) && every rule-order.withoutDecision ys && rule-order.guarded panel s [] xs
+    && rule-order.oldestUndecided xs
+    && rule-order.oldestStaysHeld panel s xs ys)
+    ≡ rule-order.order panel (listed s xs ys)
+unfolding rule-order.order
+order-lists s xs ys h k = rw (apart-alone ys, ← apart-both xs ys, le-leb (length xs) 8 h, le-leb (length ys) 8 k)
+
+-- an account in order has its counts within limits
+pub order-counts : (a : Account) → orderOf a ≡ true → (a .progressing ≤ 8) × (a .holding ≤ 8)
+unfolding orderOf
+order-counts a h = go (leb (a .progressing) 8) (leb (a .holding) 8) refl refl
+  where
+    go : (b c : Bool) → leb (a .progressing) 8 ≡ b → leb (a .holding) 8 ≡ c → (a .progressing ≤ 8) × (a .holding ≤ 8)
+    go true true e f = (leb-true (a .progressing) 8 e, leb-true (a .holding) 8 f)
+    go true false e f = absurd (false≢true (rw (e, f) at h))
+    go false c e f = absurd (false≢true (rw e at h))

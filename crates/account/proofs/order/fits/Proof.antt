@@ -1,0 +1,15 @@
+-- `account::order::fits` meets its contract: "opened, or balance 0" is the clause on new and closed accounts.
+-- Assumes nothing.
+use borrow.Author.Needs.{needs}
+use Rattle.account.proofs.Clauses.{fits-same}
+use Rattle.account.proofs.order.fits.Statement.{statement}
+use Rattle.account.proofs.order.fits.Tie as tie
+
+is-opened-requires : tie.Need-is-opened-requires
+is-opened-requires c κs = search needs
+
+returns : tie.Need-returns
+returns c = rw (c .before .is-opened .ensures) (fits-same (c .before .before .before .args .s))
+
+pub fits-spec : {M : Type 1} → statement M
+fits-spec = tie.close (tie.spec is-opened-requires returns)

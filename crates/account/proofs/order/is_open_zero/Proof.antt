@@ -1,0 +1,34 @@
+-- `account::order::is_open_zero` meets its contract: in each arm the event is its constructor.
+-- Assumes nothing.
+use borrow.Author.Needs.{needs}
+use Rattle.account.proofs.order.is_open_zero.Statement.{statement}
+use Rattle.account.proofs.order.is_open_zero.Tie as tie
+
+enum-known-e : tie.Need-enum-known-e
+enum-known-e c = search needs
+
+enum-told : tie.Need-enum-told
+enum-told c = search needs
+
+enum-told-2 : tie.Need-enum-told-2
+enum-told-2 c = search needs
+
+enum-told-3 : tie.Need-enum-told-3
+enum-told-3 c = search needs
+
+returns : tie.Need-returns
+returns c = rw (c .before .e .given .1)
+
+returns-2 : tie.Need-returns-2
+returns-2 c = search needs
+
+returns-3 : tie.Need-returns-3
+returns-3 c = search needs
+
+returns-4 : tie.Need-returns-4
+returns-4 c = search needs
+
+pub is-open-zero-spec : {M : Type 1} → statement M
+is-open-zero-spec =
+    tie.close
+    (tie.spec enum-known-e enum-told enum-told-2 enum-told-3 returns returns-2 returns-3 returns-4)

@@ -1,0 +1,27 @@
+-- The way of the outcome question through the events in progress (document 01, "Weighing a request"): the state, and what is left of the outcome's number.
+-- Assumes nothing.
+use Prim.Native.Nat.{ℕ, _/_, _%_, _^_}
+use mathlib.Core.Bool.{cond}
+use mathlib.Core.List.{List}
+use lib.Dec.{eqb}
+use Rattle.rule.specs.Outcome.{undecidedOf, outcome}
+use Rattle.account.specs.declared.State.{State}
+use Rattle.account.specs.declared.Slot.{Slot}
+use Rattle.account.specs.declared.question.Reached.{Reached}
+use Rattle.account.specs.Panel.{effectOf, panel}
+use Rattle.account.specs.Places.{RuleSlot}
+use Rattle.account.specs.Order.{isUndecided}
+
+abbrev pub reached : State → ℕ → Reached
+reached s n = record { state = s; left = n }
+
+-- one event further: "a committed one is always applied, an undecided one as its bit says"
+unfoldable pub followed : Reached → Slot → Reached
+followed r x =
+    cond (isUndecided (x .decision))
+    (cond (eqb (r .left % 2) 1) (reached (effectOf (x .event) (r .state)) (r .left / 2)) (reached (r .state) (r .left / 2)))
+    (reached (effectOf (x .event) (r .state)) (r .left))
+
+-- past all of them: the state in that outcome, and the number without the bits of the undecided events
+unfoldable pub reachedOf : List RuleSlot → ℕ → State → Reached
+reachedOf xs n s = reached (outcome panel xs n s) (n / 2 ^ undecidedOf xs)

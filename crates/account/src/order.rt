@@ -1,0 +1,234 @@
+// Whether an account is in order, clause by clause.
+use crate::Account;
+use crate::Event;
+use crate::Slot;
+use crate::State;
+use crate::weighing::Verdict;
+use crate::weighing::decide;
+use crate::weighing::is_opened;
+use crate::weighing::is_undecided;
+ghost use mathlib.Core.Path.{_≡_};
+ghost use Prim.Native.Nat.{_≤_};
+ghost use lib.ListN.{drop};
+ghost use mathlib.Core.List.{[], map};
+ghost use lib.Seq.{slice};
+ghost use Rattle.rule.specs.Lists.{every, some-of};
+ghost use Rattle.rule.specs.Step.{named};
+ghost use Rattle.rule.specs.Order as rule;
+ghost use Rattle.account.specs.Panel.{panel, stateFits};
+ghost use Rattle.account.specs.Places.{slotOf, used};
+ghost use Rattle.account.specs.Order.{isBlank, isOpenZero, orderOf};
+ghost use Rattle.account.specs.Clauses.{isAccept, isHold, apartBeside, listed};
+
+impl Account {
+    // Whether the account is in order; counts beyond the places are told first.
+    pub fn in_order(self) -> bool
+        ensures { λ r. ⌜ r ≡ orderOf self ⌝ }
+    {
+        let progressing = self.progressing;
+        let holding = self.holding;
+        if Account::PROGRESS < progressing {
+            return false;
+        }
+        if Account::HELD < holding {
+            return false;
+        }
+        let state = self.state;
+        let progress = self.progress;
+        let held = self.held;
+        blank_from(progress, progressing)
+            & blank_from(held, holding)
+            & lists_in_order(state, progress, progressing, held, holding)
+    }
+}
+
+// Whether the used places keep the rule's clauses.
+fn lists_in_order(
+    s: State,
+    progress: [Slot; 8],
+    progressing: usize,
+    held: [Slot; 8],
+    holding: usize,
+) -> bool
+    requires { ⌜ (progressing ≤ 8) × (holding ≤ 8) ⌝ }
+    ensures { λ r. ⌜ r ≡ rule.order panel (listed s (used progress progressing) (used held holding)) ⌝ }
+{
+    fits(s)
+        & (apart(progress, progressing, held, holding) & apart(held, holding, held, 0))
+        & without_decision(held, holding)
+        & guarded(s, progress, progressing)
+        & oldest_undecided(progress, progressing)
+        & oldest_stays_held(s, progress, progressing, held, holding)
+}
+
+// Whether the balance is within limits, and 0 unless the account is opened.
+fn fits(s: State) -> bool
+    ensures { λ r. ⌜ r ≡ stateFits s ⌝ }
+{
+    let life = s.life;
+    (s.balance <= Account::LIMIT) & (is_opened(life) | (s.balance == 0))
+}
+
+// Whether every place from this one on is blank.
+fn blank_from(places: [Slot; 8], from: usize) -> bool
+    ensures { λ r. ⌜ r ≡ every isBlank (drop from places) ⌝ }
+{
+    let mut at = from;
+    while at < places.len() {
+        let place = places[at];
+        if is_blank(place) {
+            at += 1;
+        } else {
+            return false;
+        }
+    }
+    true
+}
+
+// Whether the place is the blank.
+fn is_blank(place: Slot) -> bool
+    ensures { λ r. ⌜ r ≡ isBlank place ⌝ }
+{
+    let event = place.event;
+    let decision = place.decision;
+    (place.transaction == 0) & (place.second == 0) & is_open_zero(event) & is_undecided(decision)
+}
+
+// Whether the event is the blank's.
+fn is_open_zero(e: Event) -> bool
+    ensures { λ r. ⌜ r ≡ isOpenZero e ⌝ }
+{
+    match e {
+        Event::Open(a) => a == 0,
+        Event::Withdraw(_) => false,
+        Event::Deposit(_) => false,
+        Event::Close => false,
+    }
+}
+
+// Whether each of these transactions differs from those behind it and from all of the others.
+fn apart(places: [Slot; 8], count: usize, others: [Slot; 8], more: usize) -> bool
+    requires { ⌜ (count ≤ 8) × (more ≤ 8) ⌝ }
+    ensures { λ r. ⌜ r ≡ apartBeside (used places count) (used others more) ⌝ }
+{
+    let mut at = 0;
+    while at < count {
+        let place = places[at];
+        let transaction = place.transaction;
+        at += 1;
+        if named_from(places, at, count, transaction) | named_from(others, 0, more, transaction) {
+            return false;
+        }
+    }
+    true
+}
+
+// Whether one of the used places from this one on is that transaction's.
+fn named_from(places: [Slot; 8], from: usize, count: usize, transaction: u32) -> bool
+    requires { ⌜ (from ≤ count) × (count ≤ 8) ⌝ }
+    ensures { λ r. ⌜ r ≡ some-of (named transaction) (map slotOf (slice from count places)) ⌝ }
+{
+    let mut at = from;
+    while at < count {
+        let place = places[at];
+        if transaction == place.transaction {
+            return true;
+        }
+        at += 1;
+    }
+    false
+}
+
+// Whether no used place is decided.
+fn without_decision(places: [Slot; 8], count: usize) -> bool
+    requires { ⌜ count ≤ 8 ⌝ }
+    ensures { λ r. ⌜ r ≡ every rule.withoutDecision (used places count) ⌝ }
+{
+    let mut at = 0;
+    while at < count {
+        let place = places[at];
+        let decision = place.decision;
+        if is_undecided(decision) {
+            at += 1;
+        } else {
+            return false;
+        }
+    }
+    true
+}
+
+// Whether each event in progress finds its guard true in every outcome of those before it.
+fn guarded(s: State, progress: [Slot; 8], progressing: usize) -> bool
+    requires { ⌜ progressing ≤ 8 ⌝ }
+    ensures { λ r. ⌜ r ≡ rule.guarded panel s [] (used progress progressing) ⌝ }
+{
+    let mut at = 0;
+    while at < progressing {
+        let place = progress[at];
+        let event = place.event;
+        let weighing = decide(progress, at, s, event);
+        let verdict = weighing.verdict;
+        if is_accept(verdict) {
+            at += 1;
+        } else {
+            return false;
+        }
+    }
+    true
+}
+
+// Whether the oldest event in progress, if any, is undecided.
+fn oldest_undecided(progress: [Slot; 8], progressing: usize) -> bool
+    requires { ⌜ progressing ≤ 8 ⌝ }
+    ensures { λ r. ⌜ r ≡ rule.oldestUndecided (used progress progressing) ⌝ }
+{
+    if progressing == 0 {
+        return true;
+    }
+    let place = progress[0];
+    let decision = place.decision;
+    is_undecided(decision)
+}
+
+// Whether the oldest request held, if any, would stay held.
+fn oldest_stays_held(
+    s: State,
+    progress: [Slot; 8],
+    progressing: usize,
+    held: [Slot; 8],
+    holding: usize,
+) -> bool
+    requires { ⌜ (progressing ≤ 8) × (holding ≤ 8) ⌝ }
+    ensures { λ r. ⌜ r ≡ rule.oldestStaysHeld panel s (used progress progressing) (used held holding) ⌝ }
+{
+    if holding == 0 {
+        return true;
+    }
+    let place = held[0];
+    let event = place.event;
+    let weighing = decide(progress, progressing, s, event);
+    let verdict = weighing.verdict;
+    is_hold(verdict)
+}
+
+// Whether the verdict is to accept.
+fn is_accept(verdict: Verdict) -> bool
+    ensures { λ r. ⌜ r ≡ isAccept verdict ⌝ }
+{
+    match verdict {
+        Verdict::Accept => true,
+        Verdict::Reject => false,
+        Verdict::Hold => false,
+    }
+}
+
+// Whether the verdict is to hold.
+fn is_hold(verdict: Verdict) -> bool
+    ensures { λ r. ⌜ r ≡ isHold verdict ⌝ }
+{
+    match verdict {
+        Verdict::Accept => false,
+        Verdict::Reject => false,
+        Verdict::Hold => true,
+    }
+}
