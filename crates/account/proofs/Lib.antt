@@ -5,3 +5,11 @@ pub mod Slices
 pub mod Votes
 pub mod Clauses
 pub mod Walks
+pub mod Padded
+pub mod Rows
+pub mod Taken
+pub mod Ordered
+pub mod Sought
+pub mod Refusals
+pub mod Refused
+pub mod Kept

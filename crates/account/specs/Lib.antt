@@ -5,4 +5,6 @@ pub mod Order
 pub mod Clauses
 pub mod Steps
 pub mod Reached
+pub mod Rows
+pub mod Taken
 pub mod Cases

@@ -1,7 +1,11 @@
 // The first panel: the events of an account, its state, its places, and the account itself.
+
 mod order;
+mod places;
 mod question;
+mod steps;
 mod weighing;
+mod written;
 
 // An event, with its amount of adjustment steps.
 pub enum Event {

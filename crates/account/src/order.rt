@@ -212,7 +212,7 @@ fn oldest_stays_held(
 }
 
 // Whether the verdict is to accept.
-fn is_accept(verdict: Verdict) -> bool
+pub(crate) fn is_accept(verdict: Verdict) -> bool
     ensures { λ r. ⌜ r ≡ isAccept verdict ⌝ }
 {
     match verdict {
@@ -223,7 +223,7 @@ fn is_accept(verdict: Verdict) -> bool
 }
 
 // Whether the verdict is to hold.
-fn is_hold(verdict: Verdict) -> bool
+pub(crate) fn is_hold(verdict: Verdict) -> bool
     ensures { λ r. ⌜ r ≡ isHold verdict ⌝ }
 {
     match verdict {

@@ -12,3 +12,4 @@ pub mod Demand
 pub mod Filed
 pub mod Refusals
 pub mod Written
+pub mod Says

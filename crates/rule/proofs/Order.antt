@@ -45,7 +45,7 @@ module _ {G S E B : Type 0} (R : Rule S E B) where
   past-fits sound (dropped-past l) h = past-fits sound l h
   past-fits sound (applied-past {e = e} {s = s} q l) h = past-fits sound l (sound .kept e s q h)
 
-  rest-order : Sound R → (a : Account G S E) (lines : List (Line G E)) → Rest R a lines → InOrder R a
+  pub rest-order : Sound R → (a : Account G S E) (lines : List (Line G E)) → Rest R a lines → InOrder R a
   rest-order sound a lines h =
       record {
         counts =

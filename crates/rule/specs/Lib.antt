@@ -11,4 +11,5 @@ pub mod Demand
 pub mod Exact
 pub mod Written
 pub mod Refusals
+pub mod Says
 pub mod Filed

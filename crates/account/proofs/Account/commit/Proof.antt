@@ -1,0 +1,105 @@
+-- Each way out is the rule's, by the tests that lead there.
+-- Assumes nothing.
+use mathlib.Core.Bool.{true}
+use mathlib.Core.List.{[], _∷_}
+use mathlib.Core.Path.{_≡_, sym, _∙_}
+use native.Mathlib.Omega.{arith}
+use borrow.Author.Needs.{needs}
+use borrow.Author.Tests.{not-true, not-false}
+use Rattle.rule.specs.Rule.{commit, noted}
+use Rattle.account.specs.Order.{orderOf}
+use Rattle.account.specs.Steps.{RuleEntry}
+use Rattle.account.proofs.Refusals.{out-of-order, commit-8, commit-9, commit-10, commit-taken, committed-rows}
+use Rattle.account.proofs.Account.commit.Statement.{statement}
+use Rattle.account.proofs.Account.commit.Tie as tie
+
+-- past the first test the account is in order
+in-order : (c : tie.Else1) → orderOf (c .before .before .args .self) ≡ true
+in-order c = sym (c .before .in-order .ensures) ∙ not-false (c .before .in-order .result) (c .if1 .left)
+
+in-order-requires : tie.Need-in-order-requires
+in-order-requires c κs = search needs
+
+refused-requires : tie.Need-refused-requires
+refused-requires c κs = search needs
+
+returns : tie.Need-returns
+returns c =
+    let args = c .before .before .before .args in
+    c .refused .ensures ∙ out-of-order (args .self) (commit (args .transaction) (args .second)) (sym (c .before .before .in-order .ensures) ∙ not-true (c .before .before .in-order .result) (c .before .if1 .taken))
+
+seek-requires : tie.Need-seek-requires
+seek-requires c κs = in-order c
+
+refused-requires-2 : tie.Need-refused-requires-2
+refused-requires-2 c κs = search needs
+
+returns-2 : tie.Need-returns-2
+returns-2 c =
+    let args = c .before .before .before .before .before .before .args in
+    let s = c .before .before .before .seek in
+    c .refused2 .ensures
+    ∙ commit-8 (args .self) (args .transaction) (s .result) (s .ensures) (in-order (c .before .before .before .before)) (args .second) (not-true (s .result .named) (c .before .if2 .taken))
+
+refused-requires-3 : tie.Need-refused-requires-3
+refused-requires-3 c κs = search needs
+
+returns-3 : tie.Need-returns-3
+returns-3 c =
+    let args = c .before .before .before .before .before .before .before .args in
+    let s = c .before .before .before .before .seek in
+    c .refused3 .ensures
+    ∙ commit-9 (args .self) (args .transaction) (s .result) (s .ensures) (in-order (c .before .before .before .before .before)) (args .second) (not-false (s .result .named) (c .before .before .if2 .left)) (c .before .if3 .taken)
+
+refused-requires-4 : tie.Need-refused-requires-4
+refused-requires-4 c κs = search needs
+
+returns-4 : tie.Need-returns-4
+returns-4 c =
+    let args = c .before .before .before .before .before .before .before .before .args in
+    let s = c .before .before .before .before .before .seek in
+    c .refused4 .ensures
+    ∙ commit-10 (args .self) (args .transaction) (s .result) (s .ensures) (in-order (c .before .before .before .before .before .before)) (args .second) (not-false (s .result .named) (c .before .before .before .if2 .left)) (c .before .before .if3 .left) (c .before .if4 .taken)
+
+noted-requires : tie.Need-noted-requires
+noted-requires c κs = search needs
+
+marked-requires : tie.Need-marked-requires
+marked-requires c κs = c .before .before .before .before .before .before .before .before .seek .ensures .progressing
+
+only-requires : tie.Need-only-requires
+only-requires c κs = search needs
+
+settle-requires : tie.Need-settle-requires
+settle-requires c κs = omega (arith, c .before .before .before .before .before .before .before .before .before .before .seek .ensures .progressing, c .before .before .before .before .before .before .before .before .before .before .seek .ensures .holding, c .before .marked .ensures .within, c .only .ensures .count)
+
+returns-5 : tie.Need-returns-5
+returns-5 c =
+    let args = c .before .before .before .before .before .before .before .before .before .before .before .before .before .before .args in
+    let s = c .before .before .before .before .before .before .before .before .before .before .before .seek in
+    let ok = in-order (c .before .before .before .before .before .before .before .before .before .before .before .before) in
+    let made = c .before .before .marked in
+    let entry : RuleEntry = noted (args .transaction) (args .second) in
+    c .settle .ensures (entry ∷ []) (c .before .only .ensures .list entry (c .before .before .before .before .before .before .noted .ensures))
+    ∙ committed-rows (args .self) (args .transaction) (s .result) (s .ensures) ok (args .second) (made .result) (made .ensures .list)
+    ∙ commit-taken (args .self) (args .transaction) (s .result) (s .ensures) ok (args .second) (not-false (s .result .named) (c .before .before .before .before .before .before .before .before .before .if2 .left)) (c .before .before .before .before .before .before .before .before .if3 .left) (c .before .before .before .before .before .before .before .if4 .left)
+
+pub commit-spec : {M : Type 1} → statement M
+commit-spec =
+    tie.close
+    (tie.spec
+    in-order-requires
+    refused-requires
+    returns
+    seek-requires
+    refused-requires-2
+    returns-2
+    refused-requires-3
+    returns-3
+    refused-requires-4
+    returns-4
+    noted-requires
+    marked-requires
+    only-requires
+    settle-requires
+    returns-5)

@@ -1,0 +1,298 @@
+// The steps of an account: request, commit and abort, and what follows every commit and abort.
+use crate::Account;
+use crate::Answer;
+use crate::Called;
+use crate::Decision;
+use crate::Entries;
+use crate::Entry;
+use crate::Event;
+use crate::Slot;
+use crate::State;
+use crate::order::is_accept;
+use crate::order::is_hold;
+use crate::places::Row;
+use crate::weighing::Verdict;
+use crate::weighing::Weighing;
+use crate::weighing::decide;
+use crate::weighing::effect;
+ghost use mathlib.Core.Path.{_≡_};
+ghost use mathlib.Core.Bool.{true};
+ghost use mathlib.Core.List.{List};
+ghost use Prim.Native.Nat.{_+_, _-_, _≤_, _<_};
+ghost use lib.ListN.{length};
+ghost use Rattle.rule.specs.Rule.{request, commit, abort};
+ghost use Rattle.rule.specs.Weigh.{decideBehind};
+ghost use Rattle.rule.specs.Step as rule;
+ghost use Rattle.account.specs.Panel.{panel};
+ghost use Rattle.account.specs.Places.{RuleSlot, slotOf};
+ghost use Rattle.account.specs.Order.{orderOf};
+ghost use Rattle.account.specs.Weighing.{weighingOf};
+ghost use Rattle.account.specs.Clauses.{isAccept, listed};
+ghost use Rattle.account.specs.Steps.{RuleEntry, entriesOf, stepOf, refusedBy};
+ghost use Rattle.account.specs.Rows.{listOf, listFrom, rowOf};
+ghost use Rattle.account.specs.Taken.{takenAs, undecidedSlot, Joined, Seeks};
+
+// What an account has of a transaction: its rows, whether it is in progress or held, whether it is held, whether it is committed, and its place.
+struct Sought {
+    progress: Row,
+    held: Row,
+    named: bool,
+    waits: bool,
+    committed: bool,
+    slot: Slot,
+}
+
+impl Account {
+    // A request: refused, or voted on, and in progress, held or gone by its vote.
+    pub fn request(self, transaction: u32, second: u32, event: Event) -> Called
+        ensures { λ r. ⌜ r ≡ stepOf self (request transaction second event) ⌝ }
+    {
+        if !self.in_order() {
+            return refused(self, 5);
+        }
+        let sought = self.seek(transaction);
+        if sought.named {
+            return refused(self, 6);
+        }
+        let state = self.state;
+        let progress = sought.progress;
+        let held = sought.held;
+        if Account::HELD <= held.count {
+            return refused(self, 7);
+        }
+        ask(state, progress, held, transaction, second, event)
+    }
+
+    // A commit: refused, or noted, the event marked, and what is then decided applied and voted on.
+    pub fn commit(self, transaction: u32, second: u32) -> Called
+        ensures { λ r. ⌜ r ≡ stepOf self (commit transaction second) ⌝ }
+    {
+        if !self.in_order() {
+            return refused(self, 5);
+        }
+        let sought = self.seek(transaction);
+        if !sought.named {
+            return refused(self, 8);
+        }
+        if sought.waits {
+            return refused(self, 9);
+        }
+        if sought.committed {
+            return refused(self, 10);
+        }
+        let entry = Entry::noted(transaction, second);
+        let state = self.state;
+        let progress = sought.progress;
+        let held = sought.held;
+        settle(
+            state,
+            progress.marked(transaction),
+            0,
+            held,
+            Entries::only(entry),
+        )
+    }
+
+    // An abort: refused, or the event or request dropped, and what is then decided applied and voted on.
+    pub fn abort(self, transaction: u32, second: u32) -> Called
+        ensures { λ r. ⌜ r ≡ stepOf self (abort transaction second) ⌝ }
+    {
+        if !self.in_order() {
+            return refused(self, 5);
+        }
+        let sought = self.seek(transaction);
+        if !sought.named {
+            return refused(self, 8);
+        }
+        if sought.committed {
+            return refused(self, 11);
+        }
+        let state = self.state;
+        let progress = sought.progress;
+        let held = sought.held;
+        let entry = Entry::dropped(sought.slot);
+        settle(
+            state,
+            progress.without(transaction),
+            0,
+            held.without(transaction),
+            Entries::only(entry),
+        )
+    }
+
+    // What the account has of a transaction.
+    fn seek(self, transaction: u32) -> Sought
+        requires { ⌜ orderOf self ≡ true ⌝ }
+        ensures { λ r. ⌜ Seeks self transaction r ⌝ }
+    {
+        let slots = self.progress;
+        let progress = Row {
+            slots,
+            count: self.progressing,
+        };
+        let slots = self.held;
+        let held = Row {
+            slots,
+            count: self.holding,
+        };
+        let event = progress.find(transaction);
+        let request = held.find(transaction);
+        let slot = event.or(request).place();
+        let waits = request.is_found();
+        Sought {
+            progress,
+            held,
+            named: event.is_found() | waits,
+            waits,
+            committed: event.is_committed(),
+            slot,
+        }
+    }
+}
+
+// A refusal: its number, the same account, no entries.
+fn refused(account: Account, number: u8) -> Called
+    ensures { λ r. ⌜ r ≡ refusedBy account number ⌝ }
+{
+    let answer = Answer::Refused(number);
+    let entries = Entries::none();
+    Called {
+        answer,
+        account,
+        entries,
+    }
+}
+
+// A step that is taken: the account of these rows, and the entries.
+fn taken(state: State, progress: Row, held: Row, entries: Entries) -> Called
+    ensures { λ r. ⌜ ((events requests : List RuleSlot) (written : List RuleEntry) → progress ≡ rowOf events → held ≡ rowOf requests → entries ≡ entriesOf written → r ≡ takenAs (record { account = listed state events requests; entries = written })) ⌝ }
+{
+    let slots = progress.slots;
+    let waiting = held.slots;
+    let account = Account {
+        state,
+        progress: slots,
+        progressing: progress.count,
+        held: waiting,
+        holding: held.count,
+    };
+    let answer = Answer::Taken;
+    Called {
+        answer,
+        account,
+        entries,
+    }
+}
+
+// A request that is taken: it is in progress, held, or gone, and its entry carries its vote.
+fn ask(
+    state: State,
+    progress: Row,
+    held: Row,
+    transaction: u32,
+    second: u32,
+    event: Event,
+) -> Called
+    requires { ⌜ (progress .count ≤ 8) × (held .count < 8) ⌝ }
+    ensures { λ r. ⌜ ((events requests : List RuleSlot) → progress ≡ rowOf events → held ≡ rowOf requests → r ≡ takenAs (rule.asked panel (listed state events requests) transaction second event)) ⌝ }
+{
+    let decision = Decision::Undecided;
+    let slot = Slot {
+        transaction,
+        second,
+        event,
+        decision,
+    };
+    let weighing = decide_behind(held.count, progress, state, event);
+    let entries = Entries::only(Entry::voted(slot, weighing));
+    let verdict = weighing.verdict;
+    if is_hold(verdict) {
+        return taken(state, progress, held.with(slot), entries);
+    }
+    taken(state, joined(progress, slot, verdict), held, entries)
+}
+
+// The decision on a request behind those held: held with 0 if there are any.
+fn decide_behind(holding: usize, progress: Row, state: State, event: Event) -> Weighing
+    requires { ⌜ progress .count ≤ 8 ⌝ }
+    ensures { λ r. ⌜ ((requests : List RuleSlot) → holding ≡ length requests → weighingOf r ≡ decideBehind panel requests event state (listOf progress)) ⌝ }
+{
+    let slots = progress.slots;
+    if holding == 0 {
+        return decide(slots, progress.count, state, event);
+    }
+    let verdict = Verdict::Hold;
+    Weighing {
+        verdict,
+        weighed: 0,
+    }
+}
+
+// What follows every commit and abort, from the place `first` in progress on: the committed oldest are applied, then the requests held are looked at.
+fn settle(state: State, progress: Row, first: usize, held: Row, entries: Entries) -> Called
+    requires { ⌜ (first ≤ progress .count) × (progress .count ≤ 8) × (held .count ≤ 8) × (entries .count + (progress .count - first) + held .count ≤ 17) ⌝ }
+    ensures { λ r. ⌜ ((written : List RuleEntry) → entries ≡ entriesOf written → r ≡ takenAs (rule.after written (rule.settle panel state (listFrom first progress) (listOf held)))) ⌝ }
+{
+    if progress.settled(first) {
+        return drain(state, progress.after(first), held, 0, entries);
+    }
+    let slots = progress.slots;
+    let slot = slots[first];
+    let event = slot.event;
+    let next = effect(event, state);
+    let entry = Entry::applied(slot, next.balance);
+    settle(next, progress, first + 1, held, entries.with(entry))
+}
+
+// The requests held are weighed, from the place `first` on, until one stays held.
+fn drain(state: State, progress: Row, held: Row, first: usize, entries: Entries) -> Called
+    requires { ⌜ (first ≤ held .count) × (progress .count ≤ 8) × (held .count ≤ 8) × (entries .count + (held .count - first) ≤ 17) ⌝ }
+    ensures { λ r. ⌜ ((events : List RuleSlot) (written : List RuleEntry) → progress ≡ rowOf events → entries ≡ entriesOf written → r ≡ takenAs (rule.after written (rule.drain panel state events (listFrom first held)))) ⌝ }
+{
+    if first == held.count {
+        return taken(state, progress, held.after(first), entries);
+    }
+    let slots = held.slots;
+    let slot = slots[first];
+    let event = slot.event;
+    let places = progress.slots;
+    let weighing = decide(places, progress.count, state, event);
+    let verdict = weighing.verdict;
+    let stays = is_hold(verdict);
+    if stays {
+        return taken(state, progress, held.after(first), entries);
+    }
+    let progress = joined(progress, slot, verdict);
+    drain(
+        state,
+        progress,
+        held,
+        first + 1,
+        entries.with(Entry::voted(slot, weighing)),
+    )
+}
+
+// The events in progress after a vote on a request: the request is one of them if it was accepted.
+fn joined(progress: Row, slot: Slot, verdict: Verdict) -> Row
+    requires { ⌜ (progress .count ≤ 8) × (isAccept verdict ≡ true → progress .count < 8) ⌝ }
+    ensures { λ r. ⌜ Joined progress slot verdict r ⌝ }
+{
+    if is_accept(verdict) {
+        return progress.with(undecided(slot));
+    }
+    progress
+}
+
+// The place, undecided.
+fn undecided(slot: Slot) -> Slot
+    ensures { λ r. ⌜ slotOf r ≡ undecidedSlot slot ⌝ }
+{
+    let event = slot.event;
+    let decision = Decision::Undecided;
+    Slot {
+        transaction: slot.transaction,
+        second: slot.second,
+        event,
+        decision,
+    }
+}
