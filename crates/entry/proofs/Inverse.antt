@@ -1,0 +1,186 @@
+-- Reader and writer of entries are inverse, as those of messages are: the numbers of an entry are read back by the law on fields, and an entry is
+-- its numbers; what was read was read by a row of the table, whose widths make up its length, so the law on fields gives its bytes.
+-- Assumes nothing.
+use Prim.Native.Nat.{ℕ, _+_, _≤_, _<_, _^_}
+use native.Mathlib.Omega.{arith}
+use mathlib.Core.Path.{_≡_, refl, ap, ap₂, sym, _∙_}
+use mathlib.Core.Bool.{Bool, true, false, cond, _&&_, _||_, not, false≢true}
+use mathlib.Core.List.{List, [], _∷_, _++_}
+use mathlib.Core.Option.{Option, none, some}
+use borrow.Author.Tests.{ltb-false, eqb-true, eqb-false, leb-true}
+use lib.Dec.{eqb, leb, ltb, lit<}
+use lib.ListN.{length, getD, take, drop, length-append}
+use Rattle.account.specs.declared.Entry.{Entry}
+use Rattle.layout.specs.Number.{numberAt, AreBytes}
+use Rattle.layout.specs.Fields.{Row, rowOf, wholeOf, thenOf, widthsOf, numbersAt, written, total, lastAccount}
+use Rattle.layout.specs.Events.{eventKind, amountOf, eventOf}
+use Rattle.layout.proofs.Numbers.{numberAt-fits}
+use Rattle.layout.proofs.Fields.{Fit, fit-heading, numbersAt-fit, numbersAt-written, written-numbersAt}
+use Rattle.layout.proofs.Tables.{present, unknown}
+use Rattle.entry.specs.declared.EntryReading.{EntryReading}
+use Rattle.entry.specs.declared.EntryReading.the-variants.{Found, Nothing}
+use Rattle.entry.specs.Bytes.{entryRows, kindOf, thenNumbers, numbersOf, bytesOfEntry, lengthOfTold, toldBy, entryOf}
+use Rattle.entry.specs.Answers.{eventFits, thenFits, readNumbers, readKind, readOf}
+use Rattle.entry.specs.Inverse.{amountIn, weighedIn, balanceIn, Writable, ReadsWritten, Read, WritesRead}
+use Rattle.entry.proofs.Shapes.{shaped}
+use Rattle.entry.proofs.Stored.{length-entry}
+use Rattle.entry.proofs.Reading.{by-kind, numbers-row}
+
+pub reads-written : ReadsWritten
+unfolding numbersAt bytesOfEntry lengthOfTold
+reads-written account e after p =
+    let told = e .told in
+    let found = rowOf entryRows (kindOf told) in
+    let bytes = bytesOfEntry account e ++ after in
+    let numbers = numbersOf account e in
+    let n : length bytes ≡ lengthOfTold told + length after = rw (length-append, length-entry account e) in
+    let z : 0 < lengthOfTold told = rw (← shaped told .whole) (omega arith) in
+    let fit : Fit (widthsOf found) numbers =
+    fit-heading (kindOf told) (e .transaction) account (e .second) (shaped told .kind) (p .transaction) (p .account′) (p .second)
+    (shaped told .fits (p .amount) (p .weighed) (p .balance)) in
+    let r : numbersAt (widthsOf found) bytes 0 ≡ numbers = numbersAt-written [] after fit in
+    let k : kindOf told ≡ numberAt bytes 0 1 = sym (ap (λ (ns : List ℕ). getD ns 0 0) r) in
+    by-kind bytes (kindOf told) (lengthOfTold told) k refl
+    ∙ numbers-row found bytes numbers z (omega arith) r (p .account′)
+    ∙ rw (shaped told .fitting, shaped told .numbers)
+
+-- what an entry that was read says of the row by which it was read
+record Taken (found : Option Row) (bytes : List ℕ) (account : ℕ) (e : Entry) (whole : ℕ) : Type 0 where
+  positive : 0 < wholeOf found
+  enough : wholeOf found ≤ length bytes
+  fitting : thenFits (drop 4 (numbersAt (widthsOf found) bytes 0)) ≡ true
+  known : getD (numbersAt (widthsOf found) bytes 0) 2 0 ≤ lastAccount
+  account′ : getD (numbersAt (widthsOf found) bytes 0) 2 0 ≡ account
+  entry : entryOf (numbersAt (widthsOf found) bytes 0) ≡ e
+  length′ : wholeOf found ≡ whole
+
+nothing-found : (e : Entry) (account whole : ℕ) → Nothing ≡ Found e account whole → ⊥
+nothing-found e account whole n = let z : _≡_ {A = ℕ} 0 1 = cc in omega arith
+
+-- an entry comes out where a test for none is false, and a test for one is true
+past : (b : Bool) (next : EntryReading) (e : Entry) (account whole : ℕ) → cond b Nothing next ≡ Found e account whole
+    → (b ≡ false) × (next ≡ Found e account whole)
+past true next e account whole n = absurd (nothing-found e account whole n)
+past false next e account whole n = (refl, n)
+
+held : (b : Bool) (next : EntryReading) (e : Entry) (account whole : ℕ) → cond b next Nothing ≡ Found e account whole
+    → (b ≡ true) × (next ≡ Found e account whole)
+held true next e account whole n = (refl, n)
+held false next e account whole n = absurd (nothing-found e account whole n)
+
+by-row : (found : Option Row) (bytes : List ℕ) (account : ℕ) (e : Entry) (whole : ℕ) → 0 < wholeOf found → readKind found bytes ≡ Found e account whole
+    → Taken found bytes account e whole
+by-row none bytes account e whole p n = absurd (omega arith)
+by-row (some r) bytes account e whole p n =
+    let numbers = numbersAt (widthsOf (some r)) bytes 0 in
+    let s = past (ltb (length bytes) (r .whole)) (readNumbers (r .whole) numbers) e account whole n in
+    let entry = Found (entryOf numbers) (getD numbers 2 0) (r .whole) in
+    let t = past (ltb lastAccount (getD numbers 2 0)) (cond (thenFits (drop 4 numbers)) entry Nothing) e account whole (s .1) in
+    let u = held (thenFits (drop 4 numbers)) entry e account whole (t .1) in
+    record {
+      positive = p;
+      enough = ltb-false (length bytes) (r .whole) (s .0);
+      fitting = u .0;
+      known = ltb-false lastAccount (getD numbers 2 0) (t .0);
+      account′ = cc (u .1);
+      entry = cc (u .1);
+      length′ = cc (u .1);
+    }
+
+taken-of : (bytes : List ℕ) (account : ℕ) (e : Entry) (whole : ℕ) → readOf bytes ≡ Found e account whole
+    → Taken (rowOf entryRows (numberAt bytes 0 1)) bytes account e whole
+unfolding readOf entryRows
+taken-of bytes account e whole n =
+    let kind = numberAt bytes 0 1 in
+    let p : wholeOf (rowOf entryRows kind) ≡ 0 → ⊥ =
+    λ z. nothing-found e account whole (rw (unknown entryRows kind (omega arith) z) at n) in
+    by-row (rowOf entryRows kind) bytes account e whole (omega arith) n
+
+-- the widths of a row that was found make up its length
+whole-row : (kind : ℕ) → 0 < wholeOf (rowOf entryRows kind) → total (widthsOf (rowOf entryRows kind)) ≡ wholeOf (rowOf entryRows kind)
+unfolding rowOf entryRows
+whole-row kind p =
+    present (λ (k : ℕ). total (widthsOf (rowOf entryRows k)) ≡ wholeOf (rowOf entryRows k)) entryRows kind (refl, (refl, (refl, (refl, (refl, (refl, tt)))))) p
+
+both : (a b : Bool) → a && b ≡ true → (a ≡ true) × (b ≡ true)
+both true b e = (refl, e)
+both false b e = absurd (false≢true e)
+
+-- an event that fits is the one of its kind and amount
+event-back : (kind amount : ℕ) → eventFits kind amount ≡ true → (eventKind (eventOf kind amount) ≡ kind) × (amountOf (eventOf kind amount) ≡ amount)
+unfolding eventOf
+event-back kind amount f = go (eqb kind 1) (eqb kind 2) (eqb kind 3) refl refl refl
+  where
+    go : (a b d : Bool) → eqb kind 1 ≡ a → eqb kind 2 ≡ b → eqb kind 3 ≡ d → (eventKind (eventOf kind amount) ≡ kind) × (amountOf (eventOf kind amount) ≡ amount)
+    go true b d p q r = rw (eqb-true kind 1 p) (refl, refl)
+    go false true d p q r = rw (eqb-true kind 2 q) (refl, refl)
+    go false false true p q r = rw (eqb-true kind 3 r) (refl, refl)
+    go false false false p q r =
+        let s = both (leb 1 kind && leb kind 4) (not (eqb kind 4) || eqb amount 0) f in
+        let t = both (leb 1 kind) (leb kind 4) (s .0) in
+        let low : 1 ≤ kind = leb-true 1 kind (t .0) in
+        let high : kind ≤ 4 = leb-true kind 4 (t .1) in
+        let n : kind ≡ 1 → ⊥ = eqb-false kind 1 p in
+        let m : kind ≡ 2 → ⊥ = eqb-false kind 2 q in
+        let o : kind ≡ 3 → ⊥ = eqb-false kind 3 r in
+        let four : kind ≡ 4 = omega arith in
+        let zero : amount ≡ 0 = eqb-true amount 0 (rw four at (s .1)) in
+        rw (four, zero) (refl, refl)
+
+-- the numbers that were read are those of the entry
+numbers-back : (bytes : List ℕ) (kind : ℕ) → 0 < wholeOf (rowOf entryRows kind) → kind ≡ numberAt bytes 0 1
+    → thenFits (numbersAt (thenOf (rowOf entryRows kind)) bytes 11) ≡ true
+    → numbersOf (numberAt bytes 5 2) (entryOf (numbersAt (widthsOf (rowOf entryRows kind)) bytes 0)) ≡ numbersAt (widthsOf (rowOf entryRows kind)) bytes 0
+unfolding rowOf entryRows numbersAt toldBy
+numbers-back bytes kind p =
+    let k = numberAt bytes 11 1 in
+    let a = numberAt bytes 12 4 in
+    present
+    (λ (k : ℕ). k ≡ numberAt bytes 0 1 → thenFits (numbersAt (thenOf (rowOf entryRows k)) bytes 11) ≡ true
+    → numbersOf (numberAt bytes 5 2) (entryOf (numbersAt (widthsOf (rowOf entryRows k)) bytes 0)) ≡ numbersAt (widthsOf (rowOf entryRows k)) bytes 0)
+    entryRows kind (
+      (λ e f. rw (← e, event-back k a f .0, event-back k a f .1)),
+      (
+        (λ e f. rw (← e, event-back k a f .0, event-back k a f .1)),
+        (
+          (λ e f. rw (← e, event-back k a f .0, event-back k a f .1)),
+          (
+            (λ e f. rw (← e)),
+            (
+              (λ e f. rw (← e, event-back k a f .0, event-back k a f .1)),
+              ((λ e f. rw (← e, event-back k a f .0, event-back k a f .1)), tt),
+            ),
+          ),
+        ),
+      ),
+    )
+    p
+
+pub writes-read : WritesRead
+unfolding numbersAt bytesOfEntry lengthOfTold
+writes-read bytes account e whole b n =
+    let kind = numberAt bytes 0 1 in
+    let found = rowOf entryRows kind in
+    let t = taken-of bytes account e whole n in
+    let numbers : numbersOf account e ≡ numbersAt (widthsOf found) bytes 0 =
+    sym (ap₂ numbersOf (t .account′) (t .entry)) ∙ numbers-back bytes kind (t .positive) refl (t .fitting) in
+    let number : (i : ℕ) → getD (numbersOf account e) i 0 ≡ getD (numbersAt (widthsOf found) bytes 0) i 0 = λ i. ap (λ (ns : List ℕ). getD ns i 0) numbers in
+    let sum : total (widthsOf found) ≡ wholeOf found = whole-row kind (t .positive) in
+    let k : kindOf (e .told) ≡ kind = number 0 in
+    let then : thenNumbers (e .told) ≡ numbersAt (thenOf found) bytes 11 = ap (λ (ns : List ℕ). drop 4 ns) numbers in
+    let bounds = shaped (e .told) .bounds (rw (then, k) (numbersAt-fit (thenOf found) bytes 11 b)) in
+    record {
+      bytes′ =
+          rw (numbers, k)
+          (sym (written-numbersAt (widthsOf found) bytes 0 (omega (arith, t .enough)) b ∙ ap (λ (n : ℕ). take n bytes) (sum ∙ t .length′)));
+      length′ = rw k (sym (t .length′));
+      writable =
+          record {
+            transaction = rw (number 1) (numberAt-fits 4 1 bytes b);
+            account′ = rw (number 2) (t .known);
+            second = rw (number 3) (numberAt-fits 4 7 bytes b);
+            amount = bounds .0;
+            weighed = bounds .1;
+            balance = bounds .2;
+          };
+    }

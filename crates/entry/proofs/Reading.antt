@@ -1,0 +1,78 @@
+-- The ways out of the reader of an entry, one law each: what the tests that led there say of the bytes picks the case of the definition.
+-- Assumes nothing.
+use Prim.Native.Nat.{ℕ, _≤_, _<_}
+use native.Mathlib.Omega.{arith}
+use mathlib.Core.Path.{_≡_, refl, ap, sym, _∙_}
+use mathlib.Core.Bool.{Bool, true, false, cond}
+use mathlib.Core.List.{List, [], _∷_}
+use mathlib.Core.Option.{Option, none, some}
+use borrow.Author.Tests.{lt-ltb, le-ltb}
+use lib.Dec.{eqb}
+use lib.ListN.{length, getD, drop}
+use Rattle.account.specs.declared.Entry.{Entry}
+use Rattle.layout.specs.Number.{numberAt}
+use Rattle.layout.specs.Fields.{Row, rowOf, wholeOf, thenOf, widthsOf, numbersAt, lastAccount}
+use Rattle.layout.specs.Events.{eventOf}
+use Rattle.layout.proofs.Tables.{present, unknown}
+use Rattle.entry.specs.declared.EntryReading.{EntryReading}
+use Rattle.entry.specs.declared.EntryReading.the-variants.{Found, Nothing}
+use Rattle.entry.specs.Bytes.{entryRows, toldBy, entryOf}
+use Rattle.entry.specs.Answers.{eventFits, thenFits, readKind, readOf, numberAfter, entryAt}
+
+-- the ways on from a row that was found
+short-row : (found : Option Row) (bytes : List ℕ) → length bytes < wholeOf found → readKind found bytes ≡ Nothing
+short-row none bytes h = refl
+short-row (some r) bytes h = rw (lt-ltb (length bytes) (r .whole) h)
+
+account-row : (found : Option Row) (bytes : List ℕ) → wholeOf found ≤ length bytes → lastAccount < numberAt bytes 5 2 → readKind found bytes ≡ Nothing
+unfolding numbersAt
+account-row none bytes h a = refl
+account-row (some r) bytes h a = rw (le-ltb (length bytes) (r .whole) h, lt-ltb lastAccount (numberAt bytes 5 2) a)
+
+-- an entry whose numbers are these, if they fit
+pub numbers-row : (found : Option Row) (bytes numbers : List ℕ) → 0 < wholeOf found → wholeOf found ≤ length bytes → numbersAt (widthsOf found) bytes 0 ≡ numbers
+    → getD numbers 2 0 ≤ lastAccount → readKind found bytes ≡ cond (thenFits (drop 4 numbers)) (Found (entryOf numbers) (getD numbers 2 0) (wholeOf found)) Nothing
+numbers-row none bytes numbers p h e a = absurd (omega arith)
+numbers-row (some r) bytes numbers p h e a = rw (e, le-ltb (length bytes) (r .whole) h, le-ltb lastAccount (getD numbers 2 0) a)
+
+-- what follows the heading, by its places
+module _ (bytes : List ℕ) (kind : ℕ) (p : 0 < wholeOf (rowOf entryRows kind)) where
+  fits-read : thenFits (numbersAt (thenOf (rowOf entryRows kind)) bytes 11) ≡ cond (eqb kind 20) true (eventFits (numberAt bytes 11 1) (numberAt bytes 12 4))
+  unfolding rowOf entryRows numbersAt
+  fits-read =
+      present
+      (λ (k : ℕ). thenFits (numbersAt (thenOf (rowOf entryRows k)) bytes 11) ≡ cond (eqb k 20) true (eventFits (numberAt bytes 11 1) (numberAt bytes 12 4)))
+      entryRows kind (refl, (refl, (refl, (refl, (refl, (refl, tt)))))) p
+
+  told-read : kind ≡ numberAt bytes 0 1 → entryOf (numbersAt (widthsOf (rowOf entryRows kind)) bytes 0) ≡ entryAt bytes kind
+  unfolding rowOf entryRows numbersAt toldBy
+  told-read k =
+      present
+      (λ (k : ℕ). k ≡ numberAt bytes 0 1 → entryOf (numbersAt (widthsOf (rowOf entryRows k)) bytes 0) ≡ entryAt bytes k)
+      entryRows kind ((λ e. rw (← e)), ((λ e. rw (← e)), ((λ e. rw (← e)), ((λ e. rw (← e)), ((λ e. rw (← e)), ((λ e. rw (← e)), tt)))))) p k
+
+module _ (bytes : List ℕ) (kind whole : ℕ) (k : kind ≡ numberAt bytes 0 1) (w : whole ≡ wholeOf (rowOf entryRows kind)) where
+  pub by-kind : readOf bytes ≡ readKind (rowOf entryRows kind) bytes
+  unfolding readOf
+  by-kind = rw k
+
+  pub read-unknown : whole ≡ 0 → readOf bytes ≡ Nothing
+  unfolding entryRows
+  read-unknown z = by-kind ∙ rw (unknown entryRows kind (omega arith) (sym w ∙ z))
+
+  pub read-short : length bytes < whole → readOf bytes ≡ Nothing
+  read-short h = by-kind ∙ short-row (rowOf entryRows kind) bytes (rw w at h)
+
+  pub read-account : whole ≤ length bytes → lastAccount < numberAt bytes 5 2 → readOf bytes ≡ Nothing
+  read-account h a = by-kind ∙ account-row (rowOf entryRows kind) bytes (rw w at h) a
+
+  pub read-fitting : (whole ≡ 0 → ⊥) → whole ≤ length bytes → numberAt bytes 5 2 ≤ lastAccount
+      → readOf bytes
+      ≡ cond (cond (eqb kind 20) true (eventFits (numberAt bytes 11 1) (numberAt bytes 12 4))) (Found (entryAt bytes kind) (numberAt bytes 5 2) whole) Nothing
+  unfolding numbersAt
+  read-fitting z h a =
+      let found = rowOf entryRows kind in
+      let p : 0 < wholeOf found = rw (← w) (omega arith) in
+      by-kind
+      ∙ numbers-row found bytes (numbersAt (widthsOf found) bytes 0) p (rw w at h) refl a
+      ∙ rw (fits-read bytes kind p, told-read bytes kind p k, w)

@@ -1,0 +1,102 @@
+-- What the table says of each entry, by the six cases of what it tells: the only place where they are gone through for the layout.
+-- Assumes nothing.
+use Prim.Native.Nat.{ℕ, _≤_, _<_, _^_}
+use mathlib.Core.Path.{_≡_, refl}
+use mathlib.Core.Bool.{true}
+use mathlib.Core.List.{List}
+use lib.Dec.{lit<}
+use lib.ListN.{length, getD}
+use Rattle.account.specs.declared.Event.{Event}
+use Rattle.account.specs.declared.Event.the-variants.{Open, Withdraw, Deposit, Close}
+use Rattle.account.specs.declared.Told.{Told}
+use Rattle.account.specs.declared.Told.the-variants.{Accepted, Rejected, Held, Noted, Applied, Dropped}
+use Rattle.layout.specs.Fields.{rowOf, thenOf, widthsOf, total}
+use Rattle.layout.specs.Events.{eventKind, amountOf, eventOf}
+use Rattle.layout.proofs.Events.{event-is, kind-fits}
+use Rattle.layout.proofs.Fields.{Fit, none, one, fit-head, fit-tail}
+use Rattle.entry.specs.Bytes.{entryRows, kindOf, thenNumbers, lengthOfTold, toldBy}
+use Rattle.entry.specs.Answers.{eventFits, thenFits}
+use Rattle.entry.specs.Inverse.{amountIn, weighedIn, balanceIn}
+
+event-fits : (e : Event) → eventFits (eventKind e) (amountOf e) ≡ true
+event-fits (Open a) = refl
+event-fits (Withdraw a) = refl
+event-fits (Deposit a) = refl
+event-fits Close = refl
+
+pub record Shaped (told : Told) : Type 0 where
+  -- it is what its numbers say, and they fit
+  pub numbers : toldBy (kindOf told) (eventOf (getD (thenNumbers told) 0 0) (getD (thenNumbers told) 1 0)) (getD (thenNumbers told) 2 0) ≡ told
+  pub fitting : thenFits (thenNumbers told) ≡ true
+  -- there is a number for each width
+  pub paired : length (thenOf (rowOf entryRows (kindOf told))) ≡ length (thenNumbers told)
+  -- the widths make up the whole length
+  pub whole : total (widthsOf (rowOf entryRows (kindOf told))) ≡ lengthOfTold told
+  -- the kind is a byte, and what fits its widths fits its bytes, both ways
+  pub kind : kindOf told < 256 ^ 1
+  pub bounds : Fit (thenOf (rowOf entryRows (kindOf told))) (thenNumbers told)
+      → (amountIn told < 256 ^ 4) × (weighedIn told < 256 ^ 2) × (balanceIn told < 256 ^ 4)
+  pub fits : amountIn told < 256 ^ 4 → weighedIn told < 256 ^ 2 → balanceIn told < 256 ^ 4 → Fit (thenOf (rowOf entryRows (kindOf told))) (thenNumbers told)
+
+pub shaped : (told : Told) → Shaped told
+unfolding rowOf entryRows lengthOfTold toldBy
+shaped (Accepted e n) =
+    record {
+      numbers = rw (event-is e);
+      fitting = event-fits e;
+      paired = refl;
+      whole = refl;
+      kind = lit< tt;
+      bounds = λ f. (fit-head (fit-tail f), fit-head (fit-tail (fit-tail f)), lit< tt);
+      fits = λ a w b. one (kind-fits e) (one a (one w none));
+    }
+shaped (Rejected e n) =
+    record {
+      numbers = rw (event-is e);
+      fitting = event-fits e;
+      paired = refl;
+      whole = refl;
+      kind = lit< tt;
+      bounds = λ f. (fit-head (fit-tail f), fit-head (fit-tail (fit-tail f)), lit< tt);
+      fits = λ a w b. one (kind-fits e) (one a (one w none));
+    }
+shaped (Held e n) =
+    record {
+      numbers = rw (event-is e);
+      fitting = event-fits e;
+      paired = refl;
+      whole = refl;
+      kind = lit< tt;
+      bounds = λ f. (fit-head (fit-tail f), fit-head (fit-tail (fit-tail f)), lit< tt);
+      fits = λ a w b. one (kind-fits e) (one a (one w none));
+    }
+shaped Noted =
+    record {
+      numbers = refl;
+      fitting = refl;
+      paired = refl;
+      whole = refl;
+      kind = lit< tt;
+      bounds = λ f. (lit< tt, lit< tt, lit< tt);
+      fits = λ a w b. none;
+    }
+shaped (Applied e n) =
+    record {
+      numbers = rw (event-is e);
+      fitting = event-fits e;
+      paired = refl;
+      whole = refl;
+      kind = lit< tt;
+      bounds = λ f. (fit-head (fit-tail f), lit< tt, fit-head (fit-tail (fit-tail f)));
+      fits = λ a w b. one (kind-fits e) (one a (one b none));
+    }
+shaped (Dropped e) =
+    record {
+      numbers = rw (event-is e);
+      fitting = event-fits e;
+      paired = refl;
+      whole = refl;
+      kind = lit< tt;
+      bounds = λ f. (fit-head (fit-tail f), lit< tt, lit< tt);
+      fits = λ a w b. one (kind-fits e) (one a none);
+    }

@@ -1,0 +1,90 @@
+-- Entries stored one after the other are one run of stores, as long as their lengths together. By induction on the list of entries;
+-- one entry more is one step of the loops that count and store them.
+-- Assumes nothing.
+use Prim.Native.Nat.{ℕ, suc, _+_, _≤_, _<_, min}
+use native.Mathlib.Nat.{add-assoc, zero-add, add-zero}
+use native.Mathlib.Numerals.{add-one}
+use native.Mathlib.Omega.{arith}
+use mathlib.Core.Path.{_≡_, refl, ap, sym, _∙_}
+use mathlib.Core.Bool.{Bool, true, false}
+use mathlib.Core.List.{List, [], _∷_, _++_, append-nil, append-assoc}
+use borrow.Author.Tests.{leb-true, leb-false}
+use lib.Dec.{leb}
+use lib.ListN.{length, getD, take, length-append}
+use lib.Seq.{sets, take-suc, take-all}
+use Rattle.account.specs.declared.Event.the-variants.{Open}
+use Rattle.account.specs.declared.Told.{Told}
+use Rattle.account.specs.declared.Told.the-variants.{Accepted}
+use Rattle.account.specs.declared.Entry.{Entry}
+use Rattle.layout.specs.Fields.{rowOf, widthsOf, heading, thenOf, written}
+use Rattle.layout.proofs.Stores.{sets-more}
+use Rattle.layout.proofs.Fields.{length-written, sets-fields}
+use Rattle.entry.specs.Bytes.{entryRows, kindOf, thenNumbers, numbersOf, bytesOfEntry, lengthOfTold, bytesOfEntries, wholesOf}
+use Rattle.entry.proofs.Shapes.{shaped}
+
+pub length-entry : (account : ℕ) (e : Entry) → length (bytesOfEntry account e) ≡ lengthOfTold (e .told)
+unfolding bytesOfEntry
+length-entry account e =
+    length-written (widthsOf (rowOf entryRows (kindOf (e .told)))) (numbersOf account e) (rw (shaped (e .told) .paired)) ∙ shaped (e .told) .whole
+
+pub length-entries : (account : ℕ) (es : List Entry) → length (bytesOfEntries account es) ≡ wholesOf es
+unfolding bytesOfEntries wholesOf
+length-entries account [] = refl
+length-entries account (e ∷ es) = rw (length-append, length-entry account e, length-entries account es)
+
+pub entries-append : (account : ℕ) (xs ys : List Entry) → bytesOfEntries account (xs ++ ys) ≡ bytesOfEntries account xs ++ bytesOfEntries account ys
+unfolding bytesOfEntries
+entries-append account [] ys = refl
+entries-append account (x ∷ xs) ys = rw (append-assoc, entries-append account xs ys)
+
+pub wholes-append : (xs ys : List Entry) → wholesOf (xs ++ ys) ≡ wholesOf xs + wholesOf ys
+unfolding wholesOf
+wholes-append [] ys = sym (zero-add (wholesOf ys))
+wholes-append (x ∷ xs) ys = rw (add-assoc, wholes-append xs ys)
+
+-- the heading and what follows it are the entry
+pub entry-stored : (account at kind : ℕ) (e : Entry) (l l₁ l₂ : List ℕ) → kind ≡ kindOf (e .told)
+    → l₁ ≡ sets l at (written heading (kind ∷ e .transaction ∷ account ∷ e .second ∷ []))
+    → l₂ ≡ sets l₁ (at + 11) (written (thenOf (rowOf entryRows (kindOf (e .told)))) (thenNumbers (e .told)))
+    → l₂ ≡ sets l at (bytesOfEntry account e)
+unfolding bytesOfEntry
+entry-stored account at kind e l l₁ l₂ k e₁ e₂ =
+    sets-fields heading (thenOf (rowOf entryRows (kindOf (e .told)))) (kindOf (e .told) ∷ e .transaction ∷ account ∷ e .second ∷ []) (thenNumbers (e .told))
+    at 11 l l₁ l₂ refl refl (rw k at e₁) e₂
+
+-- what the code's arrays give past their end, where nothing looks
+abbrev pub noEntry : Entry
+noEntry = record { transaction = 0; second = 0; told = Accepted (Open 0) 0 }
+
+-- one entry more
+module _ (places : List Entry) (i : ℕ) (h : i < length places) where
+  one-more : take (i + 1) places ≡ take i places ++ (getD places i noEntry ∷ [])
+  one-more = rw add-one (take-suc places i noEntry h)
+
+  pub wholes-more : wholesOf (take (i + 1) places) ≡ wholesOf (take i places) + lengthOfTold (getD places i noEntry .told)
+  unfolding wholesOf
+  wholes-more = rw (one-more, wholes-append, add-zero)
+
+  entries-more : (account : ℕ) → bytesOfEntries account (take (i + 1) places) ≡ bytesOfEntries account (take i places) ++ bytesOfEntry account (getD places i noEntry)
+  unfolding bytesOfEntries
+  entries-more account = rw (one-more, entries-append, append-nil)
+
+  pub stored-more : (account at : ℕ) (l l₁ l₂ : List ℕ) → at ≡ wholesOf (take i places) → l₁ ≡ sets l 0 (bytesOfEntries account (take i places))
+      → l₂ ≡ sets l₁ at (bytesOfEntry account (getD places i noEntry)) → l₂ ≡ sets l 0 (bytesOfEntries account (take (i + 1) places))
+  stored-more account at l l₁ l₂ a e₁ e₂ =
+      rw (entries-more account)
+      (sets-more (bytesOfEntries account (take i places)) (bytesOfEntry account (getD places i noEntry)) l l₁ l₂ 0 at
+      (length-entries account (take i places) ∙ sym a) e₁ (rw zero-add e₂))
+
+-- a count above the number of places counts as all of them
+pub all-places : {A : Type 0} (places : List A) (count : ℕ) → length places ≡ 17 → take (min count 17) places ≡ take count places
+all-places {A} places count h = go (leb count 17) refl
+  where
+    go : (b : Bool) → leb count 17 ≡ b → take (min count 17) places ≡ take count places
+    go true e = let m : count ≤ 17 = leb-true count 17 e in let k : min count 17 ≡ count = omega arith in rw k
+    go false e =
+        let m : 17 < count = leb-false count 17 e in
+        let k : min count 17 ≡ 17 = omega arith in
+        let a : length places ≤ 17 = omega arith in
+        let b : length places ≤ count = omega arith in
+        rw (k, take-all 17 places a, take-all count places b)

@@ -1,0 +1,65 @@
+-- What the writer of a call's entries and the reader of one entry answer (document 01, "Bytes" and "Numbers given when a call is not taken").
+-- Assumes nothing.
+use Prim.Native.Nat.{ℕ}
+use mathlib.Core.Bool.{Bool, true, false, cond, not, _&&_, _||_}
+use mathlib.Core.List.{List, [], _∷_}
+use mathlib.Core.Option.{Option, none, some}
+use lib.Dec.{eqb, leb, ltb}
+use lib.ListN.{length, getD, drop}
+use Rattle.account.specs.declared.Entry.{Entry}
+use Rattle.account.specs.declared.Entries.{Entries}
+use Rattle.layout.specs.Number.{numberAt}
+use Rattle.layout.specs.Fields.{Row, rowOf, widthsOf, numbersAt, lastAccount}
+use Rattle.layout.specs.Events.{eventOf}
+use Rattle.layout.specs.Answers.{Wrote, wroteOver, refusedWith}
+use Rattle.entry.specs.declared.EntryReading.{EntryReading}
+use Rattle.entry.specs.declared.EntryReading.the-variants.{Found, Nothing}
+use Rattle.entry.specs.Bytes.{entryRows, bytesOfEntries, listOf, toldBy, entryOf}
+
+-- "The longest call is 11 + 8 × 20 + 8 × 18 = 315 bytes."
+abbrev pub longestCall : ℕ
+longestCall = 315
+
+-- the writer of a call's entries. 4: "entry buffer under 315 bytes", and also where entries that no call gives would not fit
+unfoldable pub writeOf : Entries → (account : ℕ) (buffer : List ℕ) → Wrote
+writeOf entries account buffer =
+    let bytes = bytesOfEntries account (listOf entries) in
+    cond (ltb (length buffer) longestCall) (refusedWith 4 buffer)
+    (cond (ltb (length buffer) (length bytes)) (refusedWith 4 buffer) (wroteOver bytes buffer))
+
+-- an event kind 1 to 4, and "The amount of Close is 0"
+abbrev pub eventFits : (kind amount : ℕ) → Bool
+eventFits kind amount = leb 1 kind && leb kind 4 && (not (eqb kind 4) || eqb amount 0)
+
+-- what follows the heading fits if it has no event, or one that fits
+abbrev pub thenFits : List ℕ → Bool
+thenFits [] = true
+thenFits (kind ∷ numbers) = eventFits kind (getD numbers 0 0)
+
+-- the entry, its account and its length; an account above 15 has none
+abbrev pub readNumbers : (whole : ℕ) (numbers : List ℕ) → EntryReading
+readNumbers whole numbers =
+    cond (ltb lastAccount (getD numbers 2 0)) Nothing
+    (cond (thenFits (drop 4 numbers)) (Found (entryOf numbers) (getD numbers 2 0) whole) Nothing)
+
+-- a kind that is not 17 to 22, or an entry that is not whole, is none
+abbrev pub readKind : Option Row → (bytes : List ℕ) → EntryReading
+readKind none bytes = Nothing
+readKind (some r) bytes = cond (ltb (length bytes) (r .whole)) Nothing (readNumbers (r .whole) (numbersAt (widthsOf (some r)) bytes 0))
+
+-- the reader of one entry, "by the layout alone"; bytes after a whole entry are not looked at
+unfoldable pub readOf : (bytes : List ℕ) → EntryReading
+readOf bytes = readKind (rowOf entryRows (numberAt bytes 0 1)) bytes
+
+-- the same entry by its places: the number that follows the event, of the width that the kind gives it,
+abbrev pub numberAfter : (bytes : List ℕ) (kind : ℕ) → ℕ
+numberAfter bytes kind = cond (eqb kind 21) (numberAt bytes 16 4) (numberAt bytes 16 2)
+
+-- and the entry of that kind
+abbrev pub entryAt : (bytes : List ℕ) (kind : ℕ) → Entry
+entryAt bytes kind =
+    record {
+      transaction = numberAt bytes 1 4;
+      second = numberAt bytes 7 4;
+      told = toldBy kind (eventOf (numberAt bytes 11 1) (numberAt bytes 12 4)) (numberAfter bytes kind);
+    }

@@ -1,0 +1,17 @@
+// The entries of a call in bytes, the reader of one entry, and an entry's line of text.
+mod kinds;
+mod reader;
+mod writer;
+
+use account::Entry;
+pub use reader::read_entry;
+pub use writer::write_entries;
+
+// The room that a call needs: a commit noted, 8 events applied and 8 votes.
+pub const LONGEST_CALL: usize = 315;
+
+// What the reader answers: the entry, its account and its length, or that the bytes do not begin with an entry.
+pub enum EntryReading {
+    Found(Entry, u16, usize),
+    Nothing,
+}

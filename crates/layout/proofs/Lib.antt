@@ -1,0 +1,6 @@
+pub mod Stores
+pub mod Numbers
+pub mod Fields
+pub mod Tables
+pub mod Events
+pub mod Answers

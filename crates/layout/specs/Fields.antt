@@ -1,0 +1,60 @@
+-- Fields one after the other, each a number of its own width, and the tables of kinds (document 01, "Bytes").
+-- Assumes nothing.
+use Prim.Native.Nat.{ℕ, _+_}
+use mathlib.Core.Bool.{Bool, cond}
+use mathlib.Core.List.{List, [], _∷_, _++_}
+use mathlib.Core.Option.{Option, none, some}
+use lib.Dec.{eqb}
+use Rattle.layout.specs.Number.{bytesOf, numberAt}
+
+-- the bytes of numbers, each by its width
+unfoldable pub written : (widths numbers : List ℕ) → List ℕ
+written [] numbers = []
+written (width ∷ widths) [] = []
+written (width ∷ widths) (number ∷ numbers) = bytesOf width number ++ written widths numbers
+
+-- the numbers of these widths in the bytes from `at` on
+unfoldable pub numbersAt : (widths bytes : List ℕ) (at : ℕ) → List ℕ
+numbersAt [] bytes at = []
+numbersAt (width ∷ widths) bytes at = numberAt bytes at width ∷ numbersAt widths bytes (at + width)
+
+-- how many bytes these widths take
+abbrev pub total : (widths : List ℕ) → ℕ
+total [] = 0
+total (width ∷ widths) = width + total widths
+
+-- "One byte of kind, then .. transaction 4 bytes, account 2, second 4": messages and entries begin so
+abbrev pub heading : List ℕ
+heading = 1 ∷ 4 ∷ 2 ∷ 4 ∷ []
+
+-- "16 accounts, numbered 0 to 15"
+abbrev pub lastAccount : ℕ
+lastAccount = 15
+
+-- a row of a table of kinds: the kind, the whole length, and the widths of what follows the heading
+pub record Row : Type 0 where
+  pub kind : ℕ
+  pub whole : ℕ
+  pub then : List ℕ
+
+abbrev pub row : (kind whole : ℕ) (then : List ℕ) → Row
+row kind whole then = record { kind = kind; whole = whole; then = then }
+
+-- the row of a kind, if the table has one
+unfoldable pub rowOf : List Row → (kind : ℕ) → Option Row
+rowOf [] kind = none
+rowOf (r ∷ rows) kind = cond (eqb kind (r .kind)) (some r) (rowOf rows kind)
+
+-- the whole length that a row gives, and 0 where there is no row
+abbrev pub wholeOf : Option Row → ℕ
+wholeOf none = 0
+wholeOf (some r) = r .whole
+
+-- the widths of what follows the heading,
+abbrev pub thenOf : Option Row → List ℕ
+thenOf none = []
+thenOf (some r) = r .then
+
+-- and of all fields
+abbrev pub widthsOf : Option Row → List ℕ
+widthsOf found = heading ++ thenOf found

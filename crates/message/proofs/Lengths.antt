@@ -1,0 +1,37 @@
+-- The whole length of each kind, as the code finds it by ranges: kinds 1 to 3, 4 to 6, and the others.
+-- Assumes nothing.
+use Prim.Native.Nat.{ℕ, zero, suc, _≤_, _<_}
+use native.Mathlib.Omega.{arith}
+use mathlib.Core.Path.{_≡_, refl, ap, sym}
+use mathlib.Core.List.{List, []}
+use mathlib.Core.Option.{none}
+use Rattle.layout.specs.Fields.{rowOf, wholeOf}
+use Rattle.layout.proofs.Tables.{Each, absent}
+use Rattle.message.specs.Bytes.{messages}
+
+pub with-amount : (kind : ℕ) → 1 ≤ kind → kind ≤ 3 → wholeOf (rowOf messages kind) ≡ 15
+unfolding rowOf messages
+with-amount zero h k = absurd (omega arith)
+with-amount (suc zero) h k = refl
+with-amount (suc (suc zero)) h k = refl
+with-amount (suc (suc (suc zero))) h k = refl
+with-amount (suc (suc (suc (suc kind)))) h k = absurd (omega arith)
+
+pub without-amount : (kind : ℕ) → 3 < kind → kind ≤ 6 → wholeOf (rowOf messages kind) ≡ 11
+unfolding rowOf messages
+without-amount zero h k = absurd (omega arith)
+without-amount (suc zero) h k = absurd (omega arith)
+without-amount (suc (suc zero)) h k = absurd (omega arith)
+without-amount (suc (suc (suc zero))) h k = absurd (omega arith)
+without-amount (suc (suc (suc (suc zero)))) h k = refl
+without-amount (suc (suc (suc (suc (suc zero))))) h k = refl
+without-amount (suc (suc (suc (suc (suc (suc zero)))))) h k = refl
+without-amount (suc (suc (suc (suc (suc (suc (suc kind))))))) h k = absurd (omega arith)
+
+pub below-kinds : (kind : ℕ) → kind < 1 → wholeOf (rowOf messages kind) ≡ 0
+unfolding messages
+below-kinds kind h = rw (absent messages kind (omega arith))
+
+pub above-kinds : (kind : ℕ) → 6 < kind → wholeOf (rowOf messages kind) ≡ 0
+unfolding messages
+above-kinds kind h = rw (absent messages kind (omega arith))

@@ -1,0 +1,6 @@
+pub mod Lengths
+pub mod Shapes
+pub mod Reader
+pub mod Writer
+pub mod Inverse
+pub mod Refusals

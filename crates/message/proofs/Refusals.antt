@@ -1,0 +1,103 @@
+-- Each test of the reader and the writer is the document's. A kind has a row exactly if it is 1 to 6; the other tests are those of the definition.
+-- Assumes nothing.
+use Prim.Native.Nat.{ℕ, _≤_, _<_}
+use native.Mathlib.Omega.{arith}
+use mathlib.Core.Path.{_≡_, refl, ap, sym, _∙_}
+use mathlib.Core.Bool.{Bool, true, false, cond, not, _&&_, true≢false, false≢true}
+use mathlib.Core.List.{List, [], _∷_}
+use mathlib.Core.Option.{Option, none, some}
+use borrow.Author.Tests.{leb-true, leb-false, ltb-false}
+use lib.Dec.{leb, ltb, eqb}
+use lib.ListN.{length, getD}
+use Rattle.layout.specs.Number.{numberAt}
+use Rattle.layout.specs.Fields.{Row, rowOf, wholeOf, widthsOf, numbersAt}
+use Rattle.layout.specs.Answers as Answers′
+use Rattle.layout.specs.Answers.{firstOf, test, wroteOver, refusedWith}
+use Rattle.layout.proofs.Tables.{unknown}
+use Rattle.layout.proofs.Answers.{wrote-stays, cond-stays}
+use Rattle.message.specs.declared.Message.{Message}
+use Rattle.message.specs.declared.Reading.{Reading}
+use Rattle.message.specs.declared.Reading.the-variants as Reading′
+use Rattle.message.specs.Bytes.{messages, headingOf, messageOf, bytesOfMessage, lengthOfMessage}
+use Rattle.message.specs.Answers.{Given, given, readOf, readKind, readNumbers, writeOf}
+use Rattle.message.specs.Refusals.{ReaderRefuses, WriterRefuses, WriterStays, ReadingsApart}
+use Rattle.message.proofs.Lengths.{with-amount, without-amount, below-kinds, above-kinds}
+use Rattle.message.proofs.Writer.{length-message}
+
+-- the refusal where a test comes first
+reading-cond : (b : Bool) (number : ℕ) (next : Reading) → given (cond b (Reading′.Refused number) next) .refusal ≡ cond b (some number) (given next .refusal)
+reading-cond true number next = refl
+reading-cond false number next = refl
+
+-- the length of a kind, by its two tests
+module _ (kind : ℕ) where
+  known-length : leb 1 kind && leb kind 6 ≡ true → 0 < wholeOf (rowOf messages kind)
+  known-length e = go (leb 1 kind) (leb kind 6) (leb kind 3) refl refl refl e
+    where
+      go : (a b d : Bool) → leb 1 kind ≡ a → leb kind 6 ≡ b → leb kind 3 ≡ d → a && b ≡ true → 0 < wholeOf (rowOf messages kind)
+      go false b d p q r e = absurd (false≢true e)
+      go true false d p q r e = absurd (false≢true e)
+      go true true true p q r e = rw (with-amount kind (leb-true 1 kind p) (leb-true kind 3 r)) (omega arith)
+      go true true false p q r e = rw (without-amount kind (leb-false kind 3 r) (leb-true kind 6 q)) (omega arith)
+
+  unknown-length : leb 1 kind && leb kind 6 ≡ false → wholeOf (rowOf messages kind) ≡ 0
+  unknown-length e = go (leb 1 kind) (leb kind 6) refl refl e
+    where
+      go : (a b : Bool) → leb 1 kind ≡ a → leb kind 6 ≡ b → a && b ≡ false → wholeOf (rowOf messages kind) ≡ 0
+      go true true p q e = absurd (true≢false e)
+      go true false p q e = above-kinds kind (leb-false kind 6 q)
+      go false b p q e = below-kinds kind (leb-false 1 kind p)
+
+-- the refusals where there is a row
+row-refuses : (found : Option Row) (bytes : List ℕ) → 0 < wholeOf found
+    → given (readKind found bytes) .refusal
+    ≡ firstOf (test (ltb (length bytes) (wholeOf found)) 1 ∷ test (ltb 15 (numberAt bytes 5 2)) 3 ∷ [])
+unfolding numbersAt
+row-refuses none bytes p = absurd (omega arith)
+row-refuses (some r) bytes p =
+    let numbers = numbersAt (widthsOf (some r)) bytes 0 in
+    reading-cond (ltb (length bytes) (r .whole)) 1 (readNumbers (r .whole) numbers)
+    ∙ ap (cond (ltb (length bytes) (r .whole)) (some 1)) (reading-cond (ltb 15 (numberAt bytes 5 2)) 3 (Reading′.Message (messageOf numbers) (r .whole)))
+
+kind-refuses : (kind : ℕ) (bytes : List ℕ) → given (readKind (rowOf messages kind) bytes) .refusal
+    ≡ cond (not (leb 1 kind && leb kind 6)) (some 2)
+    (firstOf (test (ltb (length bytes) (wholeOf (rowOf messages kind))) 1 ∷ test (ltb 15 (numberAt bytes 5 2)) 3 ∷ []))
+unfolding messages
+kind-refuses kind bytes = go (leb 1 kind && leb kind 6) refl
+  where
+    go : (b : Bool) → leb 1 kind && leb kind 6 ≡ b → given (readKind (rowOf messages kind) bytes) .refusal
+        ≡ cond (not b) (some 2) (firstOf (test (ltb (length bytes) (wholeOf (rowOf messages kind))) 1 ∷ test (ltb 15 (numberAt bytes 5 2)) 3 ∷ []))
+    go true e = row-refuses (rowOf messages kind) bytes (known-length kind e)
+    go false e = rw (unknown messages kind (omega arith) (unknown-length kind e))
+
+pub reader-refuses : ReaderRefuses
+unfolding readOf
+reader-refuses bytes =
+    let found = rowOf messages (numberAt bytes 0 1) in
+    reading-cond (eqb (length bytes) 0) 1 (readKind found bytes) ∙ ap (cond (eqb (length bytes) 0) (some 1)) (kind-refuses (numberAt bytes 0 1) bytes)
+
+pub writer-refuses : WriterRefuses
+unfolding writeOf
+writer-refuses m buffer = go (ltb 15 (headingOf m .account)) (ltb (length buffer) (lengthOfMessage m))
+  where
+    go : (a b : Bool)
+        → Answers′.given (cond a (refusedWith 3 buffer) (cond b (refusedWith 4 buffer) (wroteOver (bytesOfMessage m) buffer)) .answer) .refusal
+        ≡ cond a (some 3) (cond b (some 4) none)
+    go true b = refl
+    go false true = refl
+    go false false = refl
+
+pub writer-stays : WriterStays
+unfolding writeOf
+writer-stays m buffer =
+    let next = cond (ltb (length buffer) (lengthOfMessage m)) (refusedWith 4 buffer) (wroteOver (bytesOfMessage m) buffer) in
+    cond-stays (ltb 15 (headingOf m .account)) 3 buffer next
+    (λ a. cond-stays (ltb (length buffer) (lengthOfMessage m)) 4 buffer (wroteOver (bytesOfMessage m) buffer)
+    (λ b. wrote-stays (bytesOfMessage m) buffer (rw (length-message m) (ltb-false (length buffer) (lengthOfMessage m) b))))
+
+pub readings-apart : ReadingsApart
+readings-apart (Reading′.Message m n) (Reading′.Message k o) e =
+    let f = ap (λ (g : Given). g .message) e in let h = ap (λ (g : Given). g .consumed) e in cc
+readings-apart (Reading′.Message m n) (Reading′.Refused k) e = let f = ap (λ (g : Given). g .refusal) e in let z : _≡_ {A = ℕ} 0 1 = cc in absurd (omega arith)
+readings-apart (Reading′.Refused n) (Reading′.Message m k) e = let f = ap (λ (g : Given). g .refusal) e in let z : _≡_ {A = ℕ} 0 1 = cc in absurd (omega arith)
+readings-apart (Reading′.Refused n) (Reading′.Refused k) e = let f = ap (λ (g : Given). g .refusal) e in cc

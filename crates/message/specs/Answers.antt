@@ -1,0 +1,45 @@
+-- What the reader and the writer of messages answer (document 01, "Numbers given when a call is not taken").
+-- Assumes nothing.
+use Prim.Native.Nat.{ℕ}
+use mathlib.Core.Bool.{cond}
+use mathlib.Core.List.{List}
+use mathlib.Core.Option.{Option, none, some}
+use lib.Dec.{eqb, ltb}
+use lib.ListN.{length, getD}
+use Rattle.layout.specs.Number.{numberAt}
+use Rattle.layout.specs.Fields.{Row, rowOf, widthsOf, numbersAt, lastAccount}
+use Rattle.layout.specs.Answers.{Wrote, wroteOver, refusedWith}
+use Rattle.message.specs.declared.Message.{Message}
+use Rattle.message.specs.declared.Reading.{Reading}
+use Rattle.message.specs.declared.Reading.the-variants as Reading′
+use Rattle.message.specs.Bytes.{messages, headingOf, messageOf, bytesOfMessage, lengthOfMessage}
+
+-- what document 01 says of the reader's answer: the number of its refusal, if it is one, the consumed length, which is 0 for a refusal, and the message
+pub record Given : Type 0 where
+  pub refusal : Option ℕ
+  pub consumed : ℕ
+  pub message : Option Message
+
+abbrev pub given : Reading → Given
+given (Reading′.Message m whole) = record { refusal = none; consumed = whole; message = some m }
+given (Reading′.Refused number) = record { refusal = some number; consumed = 0; message = none }
+
+-- 3: "account above 15"
+abbrev pub readNumbers : (whole : ℕ) (numbers : List ℕ) → Reading
+readNumbers whole numbers = cond (ltb lastAccount (getD numbers 2 0)) (Reading′.Refused 3) (Reading′.Message (messageOf numbers) whole)
+
+-- 2: "kind not 1 to 6"; 1: "shorter than its kind's length"
+abbrev pub readKind : Option Row → (bytes : List ℕ) → Reading
+readKind none bytes = Reading′.Refused 2
+readKind (some r) bytes =
+    cond (ltb (length bytes) (r .whole)) (Reading′.Refused 1) (readNumbers (r .whole) (numbersAt (widthsOf (some r)) bytes 0))
+
+-- the reader: "1, 2, 1 and 3 in that order", the first for an empty message
+unfoldable pub readOf : (bytes : List ℕ) → Reading
+readOf bytes = cond (eqb (length bytes) 0) (Reading′.Refused 1) (readKind (rowOf messages (numberAt bytes 0 1)) bytes)
+
+-- the writer: "3, 4"
+unfoldable pub writeOf : Message → (buffer : List ℕ) → Wrote
+writeOf m buffer =
+    cond (ltb lastAccount (headingOf m .account)) (refusedWith 3 buffer)
+    (cond (ltb (length buffer) (lengthOfMessage m)) (refusedWith 4 buffer) (wroteOver (bytesOfMessage m) buffer))

@@ -1,0 +1,72 @@
+-- Messages in bytes (document 01, "Bytes", its first table).
+-- Assumes nothing.
+use Prim.Native.Nat.{ℕ}
+use mathlib.Core.Bool.{cond}
+use mathlib.Core.List.{List, [], _∷_}
+use lib.Dec.{eqb}
+use lib.ListN.{getD}
+use Rattle.account.specs.declared.Event.the-variants.{Open, Withdraw, Deposit, Close}
+use Rattle.layout.specs.Fields.{Row, row, rowOf, wholeOf, widthsOf, written}
+use Rattle.layout.specs.Events.{eventKind, amountOf, eventOf}
+use Rattle.message.specs.declared.Heading.{Heading}
+use Rattle.message.specs.declared.Message.{Message}
+use Rattle.message.specs.declared.Message.the-variants.{Request, Commit, Abort}
+
+-- the table: kind, whole length, and the amount's 4 bytes where there is one
+unfoldable pub messages : List Row
+messages =
+    row 1 15 (4 ∷ []) ∷
+    row 2 15 (4 ∷ []) ∷
+    row 3 15 (4 ∷ []) ∷
+    row 4 11 [] ∷
+    row 5 11 [] ∷
+    row 6 11 [] ∷
+    []
+
+-- "Open, Withdraw, Deposit request", "Close request", "Commit, Abort"
+abbrev pub kindOf : Message → ℕ
+kindOf (Request h e) = eventKind e
+kindOf (Commit h) = 5
+kindOf (Abort h) = 6
+
+abbrev pub headingOf : Message → Heading
+headingOf (Request h e) = h
+headingOf (Commit h) = h
+headingOf (Abort h) = h
+
+-- the amount, where there is one
+abbrev pub amountsOf : Message → List ℕ
+amountsOf (Request h (Open a)) = a ∷ []
+amountsOf (Request h (Withdraw a)) = a ∷ []
+amountsOf (Request h (Deposit a)) = a ∷ []
+amountsOf (Request h Close) = []
+amountsOf (Commit h) = []
+amountsOf (Abort h) = []
+
+-- the amount, and 0 where there is none
+abbrev pub amountIn : Message → ℕ
+amountIn (Request h e) = amountOf e
+amountIn (Commit h) = 0
+amountIn (Abort h) = 0
+
+-- "transaction 4 bytes, account 2, second 4, amount 4, in that order"
+abbrev pub numbersOf : Message → List ℕ
+numbersOf m = kindOf m ∷ headingOf m .transaction ∷ headingOf m .account ∷ headingOf m .second ∷ amountsOf m
+
+unfoldable pub bytesOfMessage : Message → List ℕ
+bytesOfMessage m = written (widthsOf (rowOf messages (kindOf m))) (numbersOf m)
+
+-- "a body whose length the kind fixes"
+unfoldable pub lengthOfMessage : Message → ℕ
+lengthOfMessage m = wholeOf (rowOf messages (kindOf m))
+
+-- the message of a kind 1 to 6
+unfoldable pub messageBy : (kind : ℕ) → Heading → (amount : ℕ) → Message
+messageBy kind h amount = cond (eqb kind 5) (Commit h) (cond (eqb kind 6) (Abort h) (Request h (eventOf kind amount)))
+
+-- the message that these numbers are
+abbrev pub messageOf : (numbers : List ℕ) → Message
+messageOf numbers =
+    messageBy (getD numbers 0 0)
+    (record { transaction = getD numbers 1 0; account = getD numbers 2 0; second = getD numbers 3 0 })
+    (getD numbers 4 0)

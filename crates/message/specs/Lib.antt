@@ -1,0 +1,4 @@
+pub mod Bytes
+pub mod Answers
+pub mod Inverse
+pub mod Refusals

@@ -1,0 +1,11 @@
+pub mod Unchanged
+pub mod Listed
+pub mod Room
+pub mod ReadBack
+pub mod Demand3
+pub mod OtherSecond
+pub mod Seconds
+pub mod Demand2
+pub mod Demands
+pub mod Accounts
+pub mod Calls

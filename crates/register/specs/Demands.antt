@@ -1,0 +1,77 @@
+-- The three demands, over byte strings, buffers and the answers of the public calls, from the register that `fresh` returns.
+-- Assumes nothing.
+use Prim.Native.Nat.{ℕ, _<_, _≤_}
+use mathlib.Core.Path.{_≡_}
+use mathlib.Core.Bool.{true}
+use mathlib.Core.List.{List, [], _∷_, map}
+use lib.ListN.{length}
+use Rattle.rule.specs.Call.{Answer, refused, taken, Called, call}
+use Rattle.rule.specs.Demand as rule
+use Rattle.account.specs.declared.Event.{Event}
+use Rattle.account.specs.declared.State.{State}
+use Rattle.account.specs.Panel.{panel}
+use Rattle.account.specs.Places.{RuleAccount, listsOf, accountOf}
+use Rattle.account.specs.Order.{orderOf}
+use Rattle.account.specs.Steps.{entryOf}
+use Rattle.layout.specs.Number.{AreBytes}
+use Rattle.layout.specs.Answers.{laidOver}
+use Rattle.message.specs.declared.Message.{Message}
+use Rattle.message.specs.declared.Reading.the-variants as Reading′
+use Rattle.message.specs.Bytes.{headingOf}
+use Rattle.message.specs.Answers.{readOf}
+use Rattle.message.specs.Inverse.{ReadsWritten, WritesRead}
+use Rattle.entry.specs.Bytes.{bytesOfEntries}
+use Rattle.entry.specs.Answers.{longestCall}
+use Rattle.register.specs.declared.Register.{Register}
+use Rattle.register.specs.declared.Answer.the-variants.{Taken}
+use Rattle.register.specs.Register.{freshRegister, accountAt, withAccount, ruleMessage}
+use Rattle.register.specs.Call.{Result, refusedWith, callOf}
+use Rattle.register.specs.Sequence.{Input, after, exchanges, seenBy}
+use Rattle.register.specs.Seconds.{OtherSeconds, SameExchanges}
+use Rattle.register.specs.Unchanged.{Checked}
+
+-- the rule's answer in bytes: a refusal changes nothing; else the account that follows stands in its place, and its entries at the beginning of the buffer
+abbrev pub ruledBy : Register → (buffer : List ℕ) (account consumed : ℕ) → RuleAccount → Answer ℕ Event ℕ → Result
+ruledBy r buffer i consumed next (refused n) = refusedWith r buffer n
+ruledBy r buffer i consumed next (taken xs) =
+    let bytes = bytesOfEntries i (map entryOf xs) in
+    record { answer = Taken consumed (length bytes); register = withAccount r i (accountOf next); buffer = laidOver bytes buffer }
+
+abbrev pub ruled : Register → (buffer : List ℕ) (account consumed : ℕ) → Called ℕ State Event ℕ → Result
+ruled r buffer i consumed called = ruledBy r buffer i consumed (called .account) (called .answer)
+
+-- every message of these is a string of bytes
+abbrev pub ByteStrings : List Input → Type 0
+ByteStrings [] = Unit {0}
+ByteStrings (x ∷ xs) = AreBytes (x .message) × ByteStrings xs
+
+-- Demand 1: every register, message and buffer.
+abbrev pub Demand1 : Type 0
+Demand1 = (r : Register) (bytes buffer : List ℕ) → Checked r bytes buffer
+
+-- Demand 2. Each request is decided as the rule says: of a message that was read, with room for its entries, to an account in order, the account that follows and the answer
+-- are those of the rule's call on the account's lists, with the guards and effects of the first panel; `Exact` and `Decided` of the rule say what that call decides.
+abbrev pub AsTheRule : Type 0
+AsTheRule =
+    (r : Register) (bytes buffer : List ℕ) (m : Message) (consumed : ℕ) → readOf bytes ≡ Reading′.Message m consumed → longestCall ≤ length buffer
+    → orderOf (accountAt r (headingOf m .account)) ≡ true
+    → callOf r bytes buffer ≡ ruled r buffer (headingOf m .account) consumed (call panel (listsOf (accountAt r (headingOf m .account))) (ruleMessage m))
+
+-- "Two message sequences that differ only in their seconds, each sent to a fresh register with equal buffers, receive equal answers, and entries equal but for the seconds."
+abbrev pub SecondsNeverMatter : Type 0
+SecondsNeverMatter =
+    (inputs inputs′ : List Input) → ByteStrings inputs → ByteStrings inputs′ → OtherSeconds inputs inputs′
+    → SameExchanges (exchanges freshRegister inputs) (exchanges freshRegister inputs′)
+
+pub record Demand2 : Type 0 where
+  pub decided : AsTheRule
+  -- "Messages are written and read by the listed layout, each the inverse of the other."
+  pub written-read : ReadsWritten
+  pub read-written : WritesRead
+  pub seconds : SecondsNeverMatter
+
+-- Demand 3: from a fresh register, after every sequence of messages, refused ones included, each of the sixteen accounts.
+abbrev pub Demand3 : Type 0
+Demand3 =
+    (inputs : List Input) → ByteStrings inputs → (i : ℕ) → i < 16
+    → rule.Demand3 panel (listsOf (accountAt (after freshRegister inputs) i)) (seenBy i (exchanges freshRegister inputs))

@@ -1,0 +1,7 @@
+pub mod Register
+pub mod Call
+pub mod Unchanged
+pub mod Sequence
+pub mod Fits
+pub mod Seconds
+pub mod Demands

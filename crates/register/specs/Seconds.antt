@@ -1,0 +1,38 @@
+-- The seconds never matter (demand 2): "Two message sequences that differ only in their seconds, each sent to a fresh register with equal buffers, receive equal answers,
+-- and entries equal but for the seconds."
+-- Assumes nothing.
+use Prim.Native.Nat.{ℕ}
+use mathlib.Core.Path.{_≡_}
+use mathlib.Core.List.{List, [], _∷_, _++_}
+use lib.ListN.{length, take, drop}
+use Rattle.account.specs.declared.Entry.{Entry}
+use Rattle.entry.specs.Bytes.{bytesOfEntry}
+use Rattle.register.specs.Call.{writtenOf}
+use Rattle.register.specs.Sequence.{Input, Exchange}
+
+-- two strings that differ only in the four bytes of the second, behind kind, transaction and account
+pub record OtherSecond (bytes bytes′ : List ℕ) : Type 0 where
+  pub size : length bytes ≡ length bytes′
+  pub front : take 7 bytes ≡ take 7 bytes′
+  pub back : drop 11 bytes ≡ drop 11 bytes′
+
+-- "Two message sequences that differ only in their seconds .. with equal buffers"
+pub data OtherSeconds : List Input → List Input → Type 0 where
+  none : OtherSeconds [] []
+  one-more : {x y : Input} {xs ys : List Input} → OtherSecond (x .message) (y .message) → x .buffer ≡ y .buffer → OtherSeconds xs ys → OtherSeconds (x ∷ xs) (y ∷ ys)
+
+-- entries one after the other, "equal but for the seconds"
+pub data SameEntries : List ℕ → List ℕ → Type 0 where
+  no-entry : SameEntries [] []
+  entry : (account : ℕ) (e e′ : Entry) {rest rest′ : List ℕ} → OtherSecond (bytesOfEntry account e) (bytesOfEntry account e′) → SameEntries rest rest′
+      → SameEntries (bytesOfEntry account e ++ rest) (bytesOfEntry account e′ ++ rest′)
+
+-- "equal answers, and entries equal but for the seconds"; the rest of the buffers is equal
+pub record SameExchange (x y : Exchange) : Type 0 where
+  pub answers : x .answer ≡ y .answer
+  pub entries : SameEntries (take (writtenOf (x .answer)) (x .buffer)) (take (writtenOf (y .answer)) (y .buffer))
+  pub rest : drop (writtenOf (x .answer)) (x .buffer) ≡ drop (writtenOf (y .answer)) (y .buffer)
+
+pub data SameExchanges : List Exchange → List Exchange → Type 0 where
+  none-seen : SameExchanges [] []
+  one-seen : {x y : Exchange} {xs ys : List Exchange} → SameExchange x y → SameExchanges xs ys → SameExchanges (x ∷ xs) (y ∷ ys)

@@ -1,0 +1,93 @@
+-- Sequences of calls, and what can be seen of them in bytes: the messages sent, the answers, and the entries in the buffers.
+-- Assumes nothing.
+use Prim.Native.Nat.{ℕ, zero, suc}
+use mathlib.Core.Bool.{cond}
+use mathlib.Core.List.{List, [], _∷_, _++_}
+use lib.Dec.{eqb}
+use lib.ListN.{length, take, drop}
+use Rattle.rule.specs.Rule as rule
+use Rattle.rule.specs.Call as rule-call
+use Rattle.rule.specs.History as rule-history
+use Rattle.account.specs.declared.Event.{Event}
+use Rattle.account.specs.declared.Told.{Told}
+use Rattle.account.specs.declared.Told.the-variants.{Accepted, Rejected, Held, Noted, Applied, Dropped}
+use Rattle.account.specs.declared.Entry.{Entry}
+use Rattle.account.specs.Steps.{RuleEntry}
+use Rattle.message.specs.declared.Message.{Message}
+use Rattle.message.specs.declared.Reading.{Reading}
+use Rattle.message.specs.declared.Reading.the-variants as Reading′
+use Rattle.message.specs.Bytes.{headingOf}
+use Rattle.message.specs.Answers as message
+use Rattle.entry.specs.declared.EntryReading.{EntryReading}
+use Rattle.entry.specs.declared.EntryReading.the-variants.{Found, Nothing}
+use Rattle.entry.specs.Answers as entry
+use Rattle.register.specs.declared.Register.{Register}
+use Rattle.register.specs.declared.Answer.{Answer}
+use Rattle.register.specs.declared.Answer.the-variants.{Refused, Taken}
+use Rattle.register.specs.Register.{ruleMessage}
+use Rattle.register.specs.Call.{callOf}
+
+-- what is handed to a call: the message bytes and the entry buffer
+pub record Input : Type 0 where
+  pub message : List ℕ
+  pub buffer : List ℕ
+
+-- a call as it can be seen: the message bytes, the answer, and the buffer that it left
+pub record Exchange : Type 0 where
+  pub message : List ℕ
+  pub answer : Answer
+  pub buffer : List ℕ
+
+-- the register after a sequence of calls, refused ones included
+abbrev pub after : Register → List Input → Register
+after r [] = r
+after r (x ∷ xs) = after (callOf r (x .message) (x .buffer) .register) xs
+
+-- and what is seen of them
+abbrev pub exchanges : Register → List Input → List Exchange
+exchanges r [] = []
+exchanges r (x ∷ xs) =
+    record { message = x .message; answer = callOf r (x .message) (x .buffer) .answer; buffer = callOf r (x .message) (x .buffer) .buffer }
+    ∷ exchanges (callOf r (x .message) (x .buffer) .register) xs
+
+-- an entry as the rule has it
+abbrev pub toldAs : ℕ → ℕ → Told → RuleEntry
+toldAs t g (Accepted e n) = rule.voted rule.accept t g e n
+toldAs t g (Rejected e n) = rule.voted rule.reject t g e n
+toldAs t g (Held e n) = rule.voted rule.hold t g e n
+toldAs t g Noted = rule.noted t g
+toldAs t g (Applied e b) = rule.applied t g e b
+toldAs t g (Dropped e) = rule.dropped t g e
+
+abbrev pub ruleEntry : Entry → RuleEntry
+ruleEntry e = toldAs (e .transaction) (e .second) (e .told)
+
+-- an entry that was read, and those of the bytes behind it; where there is none, the entries have ended
+abbrev pub readOn : (bytes : List ℕ) → (List ℕ → List RuleEntry) → EntryReading → List RuleEntry
+readOn bytes rest (Found e account whole) = ruleEntry e ∷ rest (drop whole bytes)
+readOn bytes rest Nothing = []
+
+-- the entries that bytes hold, one after the other, at most so many
+unfoldable pub entriesFrom : ℕ → List ℕ → List RuleEntry
+entriesFrom zero bytes = []
+entriesFrom (suc most) bytes = readOn bytes (λ (rest : List ℕ). entriesFrom most rest) (entry.readOf bytes)
+
+-- the entries that these bytes hold
+abbrev pub entriesIn : List ℕ → List RuleEntry
+entriesIn bytes = entriesFrom (length bytes) bytes
+
+-- the answer to an account: the number of a refusal, or the entries that stand in the first part of the buffer
+abbrev pub answerIn : Answer → (buffer : List ℕ) → rule-call.Answer ℕ Event ℕ
+answerIn (Refused n) buffer = rule-call.refused n
+answerIn (Taken consumed written) buffer = rule-call.taken (entriesIn (take written buffer))
+
+-- an exchange as an account sees it: one whose message names it, and no other
+abbrev pub seenOf : ℕ → Answer → (buffer : List ℕ) → Reading → List (rule-history.Seen ℕ Event ℕ)
+seenOf i answer buffer (Reading′.Refused n) = []
+seenOf i answer buffer (Reading′.Message m consumed) =
+    cond (eqb (headingOf m .account) i) (record { message = ruleMessage m; answer = answerIn answer buffer } ∷ []) []
+
+-- all exchanges as an account sees them
+abbrev pub seenBy : ℕ → List Exchange → List (rule-history.Seen ℕ Event ℕ)
+seenBy i [] = []
+seenBy i (x ∷ xs) = seenOf i (x .answer) (x .buffer) (message.readOf (x .message)) ++ seenBy i xs
