@@ -1,0 +1,51 @@
+-- The loop counts up to the last of the 17 places.
+-- Assumes nothing.
+use Prim.Native.Nat.{_≤_, _-_}
+use borrow.Author.Needs.{needs}
+use Rattle.account_cases.proofs.say_entries.Statement.{statement}
+use Rattle.account_cases.proofs.say_entries.Tie as tie
+
+abbrev Inv-loop : tie.InvT-loop
+Inv-loop at count i₀ i = i ≤ 17
+
+abbrev μ-loop : tie.MeasureT-loop
+μ-loop at count i₀ i = 17 - i
+
+loop-holds : tie.Need-loop-holds Inv-loop μ-loop
+loop-holds c = search needs
+
+mul-entry : tie.Need-mul-entry Inv-loop μ-loop
+mul-entry c = search needs
+
+array-copy-out-entry : tie.Need-array-copy-out-entry Inv-loop μ-loop
+array-copy-out-entry c = search needs
+
+say-entry-requires : tie.Need-say-entry-requires Inv-loop μ-loop
+say-entry-requires c κs = search needs
+
+add-i : tie.Need-add-i Inv-loop μ-loop
+add-i c = search needs
+
+loop-less : tie.Need-loop-less Inv-loop μ-loop
+loop-less c = search needs
+
+loop-again : tie.Need-loop-again Inv-loop μ-loop
+loop-again c = search needs
+
+returns : tie.Need-returns Inv-loop μ-loop
+returns c = search needs
+
+pub say-entries-spec : {M : Type 1} → statement M
+say-entries-spec =
+    tie.close
+    (tie.spec
+    Inv-loop
+    μ-loop
+    loop-holds
+    mul-entry
+    array-copy-out-entry
+    say-entry-requires
+    add-i
+    loop-less
+    loop-again
+    returns)
