@@ -4,7 +4,7 @@
 use Prim.Native.Nat.{ℕ, _+_, _≤_, _<_, _^_}
 use native.Mathlib.Omega.{arith}
 use mathlib.Core.Path.{_≡_, refl, ap, ap₂, sym, _∙_}
-use mathlib.Core.Bool.{Bool, true, false, cond, _&&_, _||_, not, false≢true}
+use mathlib.Core.Bool.{Bool, true, false, cond, _&&_, _||_, not}
 use mathlib.Core.List.{List, [], _∷_, _++_}
 use mathlib.Core.Option.{Option, none, some}
 use borrow.Author.Tests.{ltb-false, eqb-true, eqb-false, leb-true}
@@ -22,6 +22,7 @@ use Rattle.entry.specs.declared.EntryReading.the-variants.{Found, Nothin
 use Rattle.entry.specs.Bytes.{entryRows, kindOf, thenNumbers, numbersOf, bytesOfEntry, lengthOfTold, toldBy, entryOf}
 use Rattle.entry.specs.Answers.{eventFits, thenFits, readNumbers, readKind, readOf}
 use Rattle.entry.specs.Inverse.{amountIn, weighedIn, balanceIn, Writable, ReadsWritten, Read, WritesRead}
+use Rattle.entry.proofs.Booleans.{both}
 use Rattle.entry.proofs.Shapes.{shaped}
 use Rattle.entry.proofs.Stored.{length-entry}
 use Rattle.entry.proofs.Reading.{by-kind, numbers-row}
@@ -101,10 +102,6 @@ whole-row : (kind : ℕ) → 0 < wholeOf (rowOf entryRows kind) → total (width
 unfolding rowOf entryRows
 whole-row kind p =
     present (λ (k : ℕ). total (widthsOf (rowOf entryRows k)) ≡ wholeOf (rowOf entryRows k)) entryRows kind (refl, (refl, (refl, (refl, (refl, (refl, tt)))))) p
-
-both : (a b : Bool) → a && b ≡ true → (a ≡ true) × (b ≡ true)
-both true b e = (refl, e)
-both false b e = absurd (false≢true e)
 
 -- an event that fits is the one of its kind and amount
 event-back : (kind amount : ℕ) → eventFits kind amount ≡ true → (eventKind (eventOf kind amount) ≡ kind) × (amountOf (eventOf kind amount) ≡ amount)

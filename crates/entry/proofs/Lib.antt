@@ -1,6 +1,13 @@
+pub mod Booleans
 pub mod Lengths
 pub mod Shapes
 pub mod Stored
 pub mod Writing
 pub mod Reading
 pub mod Inverse
+pub mod Longest
+pub mod CallFits
+pub mod Texts
+pub mod Lines
+pub mod Refusals
+pub mod Decimals

@@ -1,3 +1,7 @@
 pub mod Bytes
 pub mod Answers
 pub mod Inverse
+pub mod Longest
+pub mod Text
+pub mod Decimal
+pub mod Refusals

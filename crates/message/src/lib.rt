@@ -79,7 +79,7 @@ pub fn write_message(message: Message, buffer: &mut [u8]) -> Writing
 }
 
 // The whole length of a message of a kind, and 0 for a kind that is none of 1 to 6.
-fn whole_length(kind: u8) -> usize
+pub fn whole_length(kind: u8) -> usize
     ensures { λ r. ⌜ r ≡ wholeOf (rowOf messages kind) ⌝ }
 {
     match kind {

@@ -1,3 +1,5 @@
+-- `entry::kinds::kind_length` meets its contract, by the kind or the range that it is in.
+-- Assumes nothing.
 use native.Mathlib.Omega.{arith}
 use mathlib.Core.Path.{sym}
 use lib.Dec.{lit≤}
@@ -6,33 +8,25 @@ use Rattle.entry.specs.Bytes.{entryRows}
 use Rattle.entry.proofs.Lengths.{vote-length, below-kinds, above-kinds}
 use Rattle.entry.proofs.kinds.kind_length.Statement.{statement}
 use Rattle.entry.proofs.kinds.kind_length.Tie as tie
-use Rattle.entry.proofs.kinds.kind_length.Reads as reads
-use Rattle.entry.proofs.kinds.kind_length.Lts as lts
 
--- src/kinds.rt:31:1
 returns : tie.Need-returns
 unfolding rowOf entryRows
 returns c = (rw (c .match .keys1), lit≤ tt)
 
--- src/kinds.rt:31:1
 returns-2 : tie.Need-returns-2
 unfolding rowOf entryRows
 returns-2 c = (rw (c .match .keys2), lit≤ tt)
 
--- src/kinds.rt:31:1
 returns-3 : tie.Need-returns-3
 unfolding rowOf entryRows
 returns-3 c = (rw (c .match .keys3), lit≤ tt)
 
--- src/kinds.rt:31:1
 returns-4 : tie.Need-returns-4
 returns-4 c = (sym (vote-length (c .before .before .before .args .kind) (omega arith) (omega arith)), lit≤ tt)
 
--- src/kinds.rt:31:1
 returns-5 : tie.Need-returns-5
 returns-5 c = (sym (below-kinds (c .before .before .args .kind) (omega arith)), lit≤ tt)
 
--- src/kinds.rt:31:1
 returns-6 : tie.Need-returns-6
 returns-6 c =
     let r = c .before .before .match .rest in

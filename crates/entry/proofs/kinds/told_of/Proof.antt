@@ -1,36 +1,30 @@
+-- `entry::kinds::told_of` meets its contract: the arm that was taken says which kind it is.
+-- Assumes nothing.
 use borrow.Author.Tests.{ne-eqb}
 use Rattle.entry.specs.Bytes.{toldBy}
 use Rattle.entry.proofs.kinds.told_of.Statement.{statement}
 use Rattle.entry.proofs.kinds.told_of.Tie as tie
-use Rattle.entry.proofs.kinds.told_of.Reads as reads
-use Rattle.entry.proofs.kinds.told_of.Lts as lts
 
--- src/kinds.rt:44:1
 returns : tie.Need-returns
 unfolding toldBy
 returns c = rw (c .match .keys1)
 
--- src/kinds.rt:44:1
 returns-2 : tie.Need-returns-2
 unfolding toldBy
 returns-2 c = rw (c .match .keys2)
 
--- src/kinds.rt:44:1
 returns-3 : tie.Need-returns-3
 unfolding toldBy
 returns-3 c = rw (c .match .keys3)
 
--- src/kinds.rt:44:1
 returns-4 : tie.Need-returns-4
 unfolding toldBy
 returns-4 c = rw (c .match .keys4)
 
--- src/kinds.rt:44:1
 returns-5 : tie.Need-returns-5
 unfolding toldBy
 returns-5 c = rw (c .match .keys5)
 
--- src/kinds.rt:44:1
 returns-6 : tie.Need-returns-6
 unfolding toldBy
 returns-6 c =

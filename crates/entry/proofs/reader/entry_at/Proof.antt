@@ -1,46 +1,39 @@
+-- `entry::reader::entry_at` meets its contract: each part is what its callee gives.
+-- Assumes nothing.
 use borrow.Author.Needs.{needs}
 use Rattle.entry.proofs.reader.entry_at.Statement.{statement}
 use Rattle.entry.proofs.reader.entry_at.Tie as tie
-use Rattle.entry.proofs.reader.entry_at.Reads as reads
-use Rattle.entry.proofs.reader.entry_at.Lts as lts
-use Rattle.entry.proofs.kinds.told_of.Reads as told-of-reads
-use Rattle.entry.proofs.reader.number_after.Reads as number-after-reads
-use Rattle.layout.proofs.event_of.Reads as event-of-reads
-use Rattle.layout.proofs.number1.Reads as number1-reads
-use Rattle.layout.proofs.number4.Reads as number4-reads
 
--- src/reader.rt:56:34
 number1-requires : tie.Need-number1-requires
 number1-requires c κs = search needs
 
--- src/reader.rt:56:62
 number4-requires : tie.Need-number4-requires
 number4-requires c κs = search needs
 
--- src/reader.rt:56:9
 event-of-requires : tie.Need-event-of-requires
 event-of-requires c κs = search needs
 
--- src/reader.rt:57:9
 number-after-requires : tie.Need-number-after-requires
 number-after-requires c κs = search needs
 
--- src/reader.rt:59:22
 number4-requires-2 : tie.Need-number4-requires-2
 number4-requires-2 c κs = search needs
 
--- src/reader.rt:60:17
 number4-requires-3 : tie.Need-number4-requires-3
 number4-requires-3 c κs = search needs
 
--- src/reader.rt:61:15
 told-of-requires : tie.Need-told-of-requires
 told-of-requires c κs = search needs
 
--- src/reader.rt:53:1
 returns : tie.Need-returns
 returns c =
-    rw (c .told-of .ensures, c .before .number43 .ensures, c .before .before .number42 .ensures, c .before .before .before .number-after .ensures, c .before .before .before .before .event-of .ensures, c .before .before .before .before .before .number4 .ensures, c .before .before .before .before .before .before .number1 .ensures)
+    let at-number43 = c .before in
+    let at-number42 = at-number43 .before in
+    let at-number-after = at-number42 .before in
+    let at-event-of = at-number-after .before in
+    let at-number4 = at-event-of .before in
+    let at-number1 = at-number4 .before in
+    rw (c .told-of .ensures, at-number43 .number43 .ensures, at-number42 .number42 .ensures, at-number-after .number-after .ensures, at-event-of .event-of .ensures, at-number4 .number4 .ensures, at-number1 .number1 .ensures)
 
 pub entry-at-spec : {M : Type 1} → statement M
 entry-at-spec =

@@ -1,48 +1,42 @@
+-- `entry::writer::put_event` meets its contract: the amount is one field more.
+-- Assumes nothing.
 use mathlib.Core.Path.{refl}
 use mathlib.Core.List.{[], _∷_}
+use borrow.Author.Needs.{needs}
 use Rattle.layout.specs.Events.{eventKind, amountOf}
 use Rattle.layout.proofs.Fields.{sets-field, sets-one}
-use borrow.Author.Needs.{needs}
 use Rattle.entry.proofs.writer.put_event.Statement.{statement}
 use Rattle.entry.proofs.writer.put_event.Tie as tie
-use Rattle.entry.proofs.writer.put_event.Reads as reads
-use Rattle.entry.proofs.writer.put_event.Lts as lts
-use Rattle.layout.proofs.event_amount.Reads as event-amount-reads
-use Rattle.layout.proofs.event_kind.Reads as event-kind-reads
-use Rattle.layout.proofs.put1.Reads as put1-reads
-use Rattle.layout.proofs.put4.Reads as put4-reads
 
--- src/writer.rt:116:30
 event-kind-requires : tie.Need-event-kind-requires
 event-kind-requires c κs = search needs
 
--- src/writer.rt:116:5
 put1-requires : tie.Need-put1-requires
 put1-requires c κs = search needs
 
--- src/writer.rt:117:26
 add-put4 : tie.Need-add-put4
 add-put4 c = search needs
 
--- src/writer.rt:117:34
 event-amount-requires : tie.Need-event-amount-requires
 event-amount-requires c κs = search needs
 
--- src/writer.rt:117:5
 put4-requires : tie.Need-put4-requires
 put4-requires c κs = search needs
 
--- src/writer.rt:112:1
 same-length : tie.Need-same-length
 same-length c = search needs
 
--- src/writer.rt:112:1
 returns : tie.Need-returns
 returns c =
-    let a = c .before .before .before .before .before .before .before .before .before .before .before .args in
-    sets-one (1 ∷ []) (eventKind (a .event) ∷ []) 4 (amountOf (a .event)) (a .at) 1 (a .buffer .now) (c .before .before .before .before .before .before .before .put1 .last .0) (c .before .before .put4 .last .0) refl refl
-    (sets-field 1 (eventKind (a .event)) (a .at) (a .buffer .now) (c .before .before .before .before .before .before .before .put1 .last .0) (rw (c .before .before .before .before .before .before .before .before .event-kind .ensures) at (c .before .before .before .before .before .before .before .put1 .ensures)))
-    (rw (c .before .before .before .event-amount .ensures) at (c .before .before .put4 .ensures))
+    let at-put4 = c .before .before in
+    let at-event-amount = at-put4 .before in
+    let at-put1 = at-event-amount .before .before .before .before in
+    let at-event-kind = at-put1 .before in
+    let start = at-event-kind .before .before .before in
+    let a = start .args in
+    sets-one (1 ∷ []) (eventKind (a .event) ∷ []) 4 (amountOf (a .event)) (a .at) 1 (a .buffer .now) (at-put1 .put1 .last .0) (at-put4 .put4 .last .0) refl refl
+    (sets-field 1 (eventKind (a .event)) (a .at) (a .buffer .now) (at-put1 .put1 .last .0) (rw (at-event-kind .event-kind .ensures) at (at-put1 .put1 .ensures)))
+    (rw (at-event-amount .event-amount .ensures) at (at-put4 .put4 .ensures))
 
 pub put-event-spec : {M : Type 1} → statement M
 put-event-spec =

@@ -1,0 +1,171 @@
+//! Document 01's own examples as streams: the sample, cases 1 to 10, the programs that would look right.
+
+use crate::message::Message;
+use crate::rules::Rules;
+use crate::subject::Target;
+
+/// A stream with the end of the text that document 01 gives for it.
+#[derive(Clone, Debug)]
+pub struct Example {
+    pub name: &'static str,
+    pub target: Target,
+    pub input: Vec<u8>,
+    pub ends_in: String,
+}
+
+/// The program's sample, whole.
+pub const SAMPLE: &str = "register 1
+accepted 1 0 100 open 100 1
+noted 1 0 100
+applied 1 0 100 open 100 100
+accepted 2 0 100 withdraw 60 1
+held 3 0 100 withdraw 60 2
+dropped 2 0 100 withdraw 60
+accepted 3 0 100 withdraw 60 1
+noted 3 0 100
+applied 3 0 100 withdraw 60 40
+end 6 0
+";
+
+/// States that the cases start from.
+const HUNDRED: &str = "open 1 100, commit 1";
+const SIXTY: &str = "open 1 100, commit 1, withdraw 2 60";
+const FORTY: &str = "open 1 100, commit 1, withdraw 2 60, withdraw 3 40";
+const NEARLY: &str = "open 1 999990, commit 1";
+const SEVEN: &str = "open 1 100, commit 1, withdraw 2 1, withdraw 3 1, withdraw 4 1, withdraw 5 1, withdraw 6 1, \
+                     withdraw 7 1, withdraw 8 1";
+const EIGHT_HELD: &str = "deposit 9 1, close 10, close 11, close 12, close 13, close 14, close 15, close 16, close 17";
+
+/// Requests weighed alone: the case, the state, the request, the line that answers it.
+const WEIGHED: [(&str, &str, &str, &str); 25] = [
+    ("case 1", "", "deposit 1 5", "rejected 1 0 100 deposit 5 1"),
+    ("case 1", "", "open 1 0", "accepted 1 0 100 open 0 1"),
+    ("case 1", "", "open 1 1000000", "accepted 1 0 100 open 1000000 1"),
+    ("case 1", "", "open 1 1000001", "rejected 1 0 100 open 1000001 1"),
+    ("case 2", HUNDRED, "withdraw 2 100", "accepted 2 0 100 withdraw 100 1"),
+    ("case 2", HUNDRED, "withdraw 2 101", "rejected 2 0 100 withdraw 101 1"),
+    ("case 2", HUNDRED, "withdraw 2 0", "rejected 2 0 100 withdraw 0 1"),
+    ("case 3", SIXTY, "withdraw 3 40", "accepted 3 0 100 withdraw 40 2"),
+    ("case 3", SIXTY, "withdraw 3 41", "held 3 0 100 withdraw 41 2"),
+    ("case 3", SIXTY, "withdraw 3 101", "rejected 3 0 100 withdraw 101 2"),
+    ("case 4", NEARLY, "deposit 2 10", "accepted 2 0 100 deposit 10 1"),
+    ("case 4", NEARLY, "deposit 2 11", "rejected 2 0 100 deposit 11 1"),
+    ("case 4", "open 1 999990, commit 1, withdraw 2 1", "deposit 3 11", "held 3 0 100 deposit 11 2"),
+    ("case 5", FORTY, "withdraw 4 1", "held 4 0 100 withdraw 1 4"),
+    ("case 5", FORTY, "deposit 4 1", "accepted 4 0 100 deposit 1 4"),
+    ("case 7", "open 1 10", "open 2 1", "held 2 0 100 open 1 2"),
+    ("case 7", "open 1 10", "withdraw 2 5", "held 2 0 100 withdraw 5 2"),
+    ("case 7", "open 1 10", "withdraw 2 11", "rejected 2 0 100 withdraw 11 2"),
+    ("case 8", "open 1 100, commit 1, close 2", "withdraw 3 101", "rejected 3 0 100 withdraw 101 2"),
+    ("case 8", "open 1 100, commit 1, close 2", "deposit 3 1", "held 3 0 100 deposit 1 2"),
+    ("case 9", SEVEN, "deposit 9 1", "accepted 9 0 100 deposit 1 128"),
+    ("case 9", SEVEN, "deposit 9 1, deposit 10 1", "held 10 0 100 deposit 1 0"),
+    ("case 9", SEVEN, EIGHT_HELD, "held 17 0 100 close 0 0"),
+    (
+        "only all and none weighed",
+        "open 1 100, commit 1, deposit 2 50, withdraw 3 50",
+        "withdraw 4 80",
+        "held 4 0 100 withdraw 80 4",
+    ),
+    (
+        "a new request passes a held one",
+        "open 1 100, commit 1, withdraw 2 60, withdraw 3 60",
+        "deposit 4 1",
+        "held 4 0 100 deposit 1 0",
+    ),
+];
+
+/// Every example.
+pub fn examples() -> Vec<Example> {
+    let sample = "open 1 100, commit 1, withdraw 2 60, withdraw 3 60, abort 2, commit 3";
+    let mut examples = vec![told("the sample", sample, SAMPLE)];
+    examples.extend(WEIGHED.iter().map(weighed));
+    examples.push(told("case 6", &join(FORTY, "commit 3"), "withdraw 40 2\nnoted 3 0 100\nend 5 0\n"));
+    let settled = "noted 3 0 100\ndropped 2 0 100 withdraw 60\napplied 3 0 100 withdraw 40 60\nend 6 0\n";
+    examples.push(told("case 6", &join(FORTY, "commit 3, abort 2"), settled));
+    let one_more = join(&join(SEVEN, EIGHT_HELD), "deposit 18 1");
+    examples.push(told("case 9", &one_more, "held 17 0 100 close 0 0\nrefused 7\nend 19 1\n"));
+    examples.push(told("no input", "", "register 1\nend 0 0\n"));
+    let outcomes = "outcome opened 100 0\noutcome opened 40 1\noutcome opened 60 1\noutcome opened 0 2\nrefused 12\n";
+    examples.push(asked("case 5", FORTY, 5, &format!("{outcomes}end 9\n")));
+    let outcomes = "outcome opened 60 0\noutcome opened 0 1\nrefused 12\n";
+    examples.push(asked("case 6", &join(FORTY, "commit 3"), 3, &format!("{outcomes}end 8\n")));
+    examples.push(rooms());
+    examples.extend(lengths());
+    examples
+}
+
+/// The longest input that is processed, and one byte more.
+fn lengths() -> Vec<Example> {
+    let mut all = messages(&["deposit 1 5, ".repeat(4_361), "abort 1, ".repeat(11)].concat()).concat();
+    let longest = |target, input: &[u8], ends_in: &str| Example {
+        name: "the longest input",
+        target,
+        input: input.to_vec(),
+        ends_in: ends_in.to_string(),
+    };
+    let frames = frame(3, &[0; 65_533]);
+    let mut examples = vec![longest(Target::Program, &all, "refused 8\nend 4372 11\n")];
+    examples.push(longest(Target::Probe, &frames, "probe 1\nrefused 2\nend 1\n"));
+    all.push(6);
+    examples.push(longest(Target::Program, &all, "register 1\ntoo long\n"));
+    examples.push(longest(Target::Probe, &[&frames[..], &[6]].concat(), "probe 1\ntoo long\n"));
+    examples
+}
+
+/// A request weighed alone.
+fn weighed((name, state, request, line): &(&'static str, &str, &str, &str)) -> Example {
+    let all = join(state, request);
+    let count = messages(&all).len();
+    told(name, &all, &format!("{line}\nend {count} 0\n"))
+}
+
+/// Messages to the program, and the end of its text.
+fn told(name: &'static str, words: &str, ends_in: &str) -> Example {
+    let input = messages(words).concat();
+    Example { name, target: Target::Program, input, ends_in: ends_in.to_string() }
+}
+
+/// Messages to the probe, then the outcome question on numbers from 0 on.
+fn asked(name: &'static str, words: &str, numbers: u32, ends_in: &str) -> Example {
+    let calls = messages(words).into_iter().flat_map(|message| frame(1, &[&[1, 59], &message[..]].concat()));
+    let questions = (0..numbers).flat_map(|number| frame(2, &[&[0, 0], &number.to_be_bytes()[..]].concat()));
+    let input = calls.chain(questions).collect();
+    Example { name, target: Target::Probe, input, ends_in: ends_in.to_string() }
+}
+
+/// Case 10: a buffer of 314 bytes, then one of 315.
+fn rooms() -> Example {
+    let open = &messages("open 1 7")[0];
+    let input = [frame(1, &[&[1, 58], &open[..]].concat()), frame(1, &[&[1, 59], &open[..]].concat())].concat();
+    let ends_in = "probe 1\nrefused 4 kept\ntaken 15 18 110000000100000000006401000000070001 kept\nend 2\n";
+    Example { name: "case 10", target: Target::Probe, input, ends_in: ends_in.to_string() }
+}
+
+/// A frame of the probe.
+fn frame(code: u8, payload: &[u8]) -> Vec<u8> {
+    [&[code], &(payload.len() as u16).to_be_bytes()[..], payload].concat()
+}
+
+/// Two runs of messages, one after the other.
+fn join(first: &str, second: &str) -> String {
+    if first.is_empty() {
+        second.to_string()
+    } else {
+        format!("{first}, {second}")
+    }
+}
+
+/// The bytes of messages given as words: name, transaction, perhaps an amount; account 0, second 100.
+pub fn messages(words: &str) -> Vec<Vec<u8>> {
+    let names = ["open", "withdraw", "deposit", "close", "commit", "abort"];
+    let all = words.split(',').map(str::trim).filter(|message| !message.is_empty());
+    all.map(|message| {
+        let words: Vec<&str> = message.split_whitespace().collect();
+        let number = |at: usize| words.get(at).and_then(|word| word.parse().ok()).unwrap_or(0);
+        let kind = names.iter().position(|name| *name == words[0]).map_or(0, |at| at as u8 + 1);
+        let message = Message { kind, transaction: number(1), account: 0, second: 100, amount: number(2) };
+        message.bytes(&Rules::DOCUMENT)
+    })
+    .collect()
+}

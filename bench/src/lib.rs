@@ -1,0 +1,35 @@
+//! An independent implementation of document 01: bytes in, entries and text out.
+//!
+//! It is written from the document. Its account keeps the list of its outcomes
+//! and halves or doubles it, so it shares no walk and no array of places with
+//! the proved register; the two meet in bytes and text alone.
+
+// The model: document 01, and page 6 for the probe.
+pub mod account;
+pub mod entry;
+pub mod event;
+pub mod fault;
+pub mod image;
+pub mod message;
+pub mod order;
+pub mod probe;
+pub mod program;
+pub mod register;
+pub mod rules;
+
+// The comparison.
+pub mod compare;
+pub mod document;
+pub mod random;
+pub mod readable;
+pub mod report;
+pub mod shrink;
+pub mod streams;
+pub mod subject;
+pub mod tally;
+
+// The benchmark.
+pub mod contention;
+pub mod measure;
+pub mod proved;
+pub mod workload;

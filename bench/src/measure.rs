@@ -1,0 +1,82 @@
+//! Timing: the same stream through each version in turn, round after round.
+
+use crate::proved;
+use crate::register::{self, Run};
+use crate::rules::{Rules, ROOM};
+use std::hint::black_box;
+use std::time::Instant;
+
+/// A version that runs messages through a fresh register.
+#[derive(Clone, Copy, PartialEq, Eq, Debug)]
+pub enum Runner {
+    /// The independent implementation.
+    Independent,
+    /// The same, judging at every call that the account is in order.
+    Judged,
+    /// The same as the first with one event in progress at a time, the two-phase-locking way.
+    OneAtATime,
+    /// The proved register.
+    Proved,
+}
+
+impl Runner {
+    /// The versions at hand: the proved one where it is linked.
+    pub fn all() -> Vec<Runner> {
+        let mut runners = vec![Runner::Independent, Runner::Judged, Runner::OneAtATime];
+        if proved::LINKED {
+            runners.push(Runner::Proved);
+        }
+        runners
+    }
+
+    /// The head of its column.
+    pub fn name(self) -> &'static str {
+        match self {
+            Runner::Independent => "independent",
+            Runner::Judged => "order judged",
+            Runner::OneAtATime => "one at a time",
+            Runner::Proved => "proved",
+        }
+    }
+
+    /// Runs the messages; `room` is for those that write where they are told.
+    pub fn run(self, messages: &[u8], room: &mut [u8]) -> Run {
+        match self {
+            Runner::Independent => register::run(messages, Rules::DOCUMENT),
+            Runner::Judged => register::run(messages, Rules { judged: true, ..Rules::DOCUMENT }),
+            Runner::OneAtATime => register::run(messages, Rules { places: 1, ..Rules::DOCUMENT }),
+            Runner::Proved => proved::run(messages, room),
+        }
+    }
+}
+
+/// Room enough for the entries of a stream.
+pub fn room(messages: &[u8]) -> Vec<u8> {
+    vec![0; 2 * ROOM + messages.len() * 4]
+}
+
+/// Nanoseconds a message of each version in its fastest round; the versions take turns.
+///
+/// What else runs on the machine only slows a round, so the fastest says most.
+pub fn times(messages: &[u8], runners: &[Runner], rounds: usize) -> Vec<f64> {
+    let mut room = room(messages);
+    let mut fastest = vec![f64::INFINITY; runners.len()];
+    for _ in 0..rounds {
+        for (runner, fastest) in runners.iter().zip(&mut fastest) {
+            let start = Instant::now();
+            let run = black_box(runner.run(black_box(messages), &mut room));
+            *fastest = fastest.min(start.elapsed().as_nanos() as f64 / run.met.max(1) as f64);
+        }
+    }
+    fastest
+}
+
+/// Whether the versions under document 01's rules agree on the stream, and no version refuses any of it.
+pub fn agree(messages: &[u8], runners: &[Runner]) -> bool {
+    let mut room = room(messages);
+    let right = register::run(messages, Rules::DOCUMENT);
+    runners.iter().all(|runner| {
+        let run = runner.run(messages, &mut room);
+        run.met == right.met && run.refused == 0 && (run.entries == right.entries || *runner == Runner::OneAtATime)
+    })
+}

@@ -1,0 +1,52 @@
+//! The proved register, linked as a static library where the feature `proved` is on.
+//!
+//! `rt staticlib register` gives `target/staticlib/libregister.a`; build with
+//! `RUSTFLAGS='-L native=target/staticlib' cargo build --release --features proved`.
+//! The exported function is declared here and nowhere else.
+
+use crate::register::Run;
+
+/// Whether the proved register is linked.
+pub const LINKED: bool = cfg!(feature = "proved");
+
+#[cfg(feature = "proved")]
+#[link(name = "register", kind = "static")]
+extern "C" {
+    /// Runs messages through a fresh register. `counts` receives messages met, messages refused
+    /// and bytes of entries written, in this order.
+    fn nacozteya_run(
+        messages: *const u8,
+        messages_len: usize,
+        entries: *mut u8,
+        entries_len: usize,
+        counts: *mut u64,
+        counts_len: usize,
+    ) -> u64;
+}
+
+/// The run of messages by the proved register; it writes into the room lent.
+#[cfg(feature = "proved")]
+pub fn run(messages: &[u8], room: &mut [u8]) -> Run {
+    let mut counts = [0u64; 3];
+    // Each pointer goes with the length of the slice that it is taken from; the function
+    // keeps none of them after it returns.
+    unsafe {
+        nacozteya_run(
+            messages.as_ptr(),
+            messages.len(),
+            room.as_mut_ptr(),
+            room.len(),
+            counts.as_mut_ptr(),
+            counts.len(),
+        );
+    }
+    let [met, refused, written] = counts;
+    let written = room.len().min(written as usize);
+    Run { met, refused, entries: room[..written].to_vec() }
+}
+
+/// Without the feature nothing is linked and nothing is run.
+#[cfg(not(feature = "proved"))]
+pub fn run(_: &[u8], _: &mut [u8]) -> Run {
+    Run::default()
+}

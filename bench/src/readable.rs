@@ -1,0 +1,96 @@
+//! Streams in readable form, piece by piece: a piece is a message or a frame.
+
+use crate::message::{self, Message};
+use crate::probe::{hex, split};
+use crate::rules::Rules;
+use crate::subject::Target;
+
+/// The messages or frames of a stream, and as the last piece what is neither.
+pub fn pieces(target: Target, bytes: &[u8]) -> Vec<Vec<u8>> {
+    let mut pieces = Vec::new();
+    let mut rest = bytes;
+    while !rest.is_empty() {
+        let length = match target {
+            Target::Program => message::length(rest[0]).filter(|length| *length <= rest.len()),
+            Target::Probe => split(rest).map(|(_, payload, _)| 3 + payload.len()),
+        };
+        let (piece, after) = rest.split_at(length.unwrap_or(rest.len()));
+        pieces.push(piece.to_vec());
+        rest = after;
+    }
+    pieces
+}
+
+/// A line for a piece.
+pub fn line(target: Target, piece: &[u8]) -> String {
+    match target {
+        Target::Program => message_line(piece),
+        Target::Probe => match split(piece) {
+            Some((code, payload, _)) => frame_line(code, payload),
+            None => format!("torn {}", shortened(piece)),
+        },
+    }
+}
+
+/// A message in words, or its bytes where it is none.
+fn message_line(bytes: &[u8]) -> String {
+    let Some(whole) = message::length(*bytes.first().unwrap_or(&0)).filter(|whole| *whole <= bytes.len()) else {
+        return format!("bytes {}", shortened(bytes));
+    };
+    let mut numbers = message::Numbers { bytes: &bytes[1..] };
+    let names = ["open", "withdraw", "deposit", "close", "commit", "abort"];
+    let name = names[usize::from(bytes[0]) - 1];
+    let (transaction, account, second) = (numbers.next(4), numbers.next(2), numbers.next(4));
+    let mut line = format!("{name} transaction {transaction} account {account} second {second}");
+    if whole == 15 {
+        line += &format!(" amount {}", numbers.next(4));
+    }
+    match &bytes[whole..] {
+        [] => line,
+        after => format!("{line}, then bytes {}", shortened(after)),
+    }
+}
+
+/// A frame in words.
+fn frame_line(code: u8, payload: &[u8]) -> String {
+    let mut numbers = message::Numbers { bytes: payload };
+    match (code, payload.len()) {
+        (1, 2..) => format!("call, room {}: {}", numbers.next(2), message_line(&payload[2..])),
+        (2, 6) => format!("outcome of account {}, number {}", numbers.next(2), numbers.next(4)),
+        (3, _) => format!("read message: {}", message_line(payload)),
+        (4, 17) => write_line(&mut numbers),
+        (5, 8) => disturb_line(&mut numbers),
+        (6, 2) => format!("show account {}", numbers.next(2)),
+        (7, _) => format!("read entry: bytes {}", shortened(payload)),
+        _ => format!("frame {code}: bytes {}", shortened(payload)),
+    }
+}
+
+/// Frame 4 in words.
+fn write_line(numbers: &mut message::Numbers) -> String {
+    let kind = numbers.next(1) as u8;
+    let (transaction, account) = (numbers.next(4), numbers.next(2) as u16);
+    let (second, amount) = (numbers.next(4), numbers.next(4));
+    let message = Message { kind, transaction, account, second, amount };
+    format!("write message, room {}: {}", numbers.next(2), message_line(&message.bytes(&Rules::DOCUMENT)))
+}
+
+/// Frame 5 in words.
+fn disturb_line(numbers: &mut message::Numbers) -> String {
+    let names = ["life", "balance", "in progress", "held", "transaction", "second", "event kind", "amount", "decision"];
+    let (account, field, place) = (numbers.next(2), numbers.next(1) as usize, numbers.next(1));
+    let name = names.get(field).copied().unwrap_or("no field");
+    let value = numbers.next(4);
+    match field {
+        0..=3 => format!("set account {account} {name} ({field}) to {value}"),
+        _ => format!("set account {account} place {place} {name} ({field}) to {value}"),
+    }
+}
+
+/// Bytes as hex, long runs cut.
+pub fn shortened(bytes: &[u8]) -> String {
+    if bytes.len() <= 40 {
+        return hex(bytes);
+    }
+    format!("{} .. ({} bytes)", hex(&bytes[..40]), bytes.len())
+}

@@ -1,0 +1,186 @@
+//! Streams for the probe: frames one after the other, and what is not frames.
+
+use crate::image::Image;
+use crate::probe::WIDEST;
+use crate::random::Random;
+use crate::rules::{Rules, ACCOUNTS, LONGEST, ROOM};
+use crate::streams::traffic::Traffic;
+use crate::streams::{codecs, disturbance};
+
+/// The kinds of streams, each with what it is after.
+pub const KINDS: [&str; 10] = [
+    "calls on one account at a time",
+    "calls on four accounts",
+    "rooms and torn messages",
+    "readers and writers",
+    "each clause of order alone",
+    "fields set at random",
+    "accounts built field by field",
+    "frames that do not fit",
+    "arbitrary bytes",
+    "the longest input",
+];
+
+/// The first code that a later page may describe: streams keep below it.
+pub const DESCRIBED_ELSEWHERE: u8 = 64;
+
+/// A stream of the kind.
+pub fn stream(kind: usize, mut random: Random) -> Vec<u8> {
+    let count = random.length(3, 700);
+    let accounts = if matches!(kind, 0 | 2 | 4) { 1 } else { 4 };
+    let mut frames = Frames::on(random, accounts);
+    match kind {
+        0 | 1 => (0..count).for_each(|_| frames.step()),
+        2 => (0..count).for_each(|_| codecs::rooms(&mut frames)),
+        3 => (0..count).for_each(|_| codecs::readers_and_writers(&mut frames)),
+        4 => disturbance::clauses(&mut frames, count.min(60)),
+        5 => disturbance::at_random(&mut frames, count),
+        6 => disturbance::built(&mut frames, count.min(40)),
+        7 => codecs::misfits(&mut frames, count),
+        8 => codecs::arbitrary(&mut frames),
+        _ => longest(&mut frames),
+    }
+    if kind != 9 {
+        frames.bytes.truncate(LONGEST);
+    }
+    below_64(frames.bytes)
+}
+
+/// Frames so far, with the traffic that they drive.
+pub struct Frames {
+    pub bytes: Vec<u8>,
+    pub traffic: Traffic,
+}
+
+impl Frames {
+    /// No frames yet, traffic on so many accounts.
+    pub fn on(random: Random, accounts: usize) -> Frames {
+        Frames { bytes: Vec::new(), traffic: Traffic::on(random, accounts) }
+    }
+
+    /// Adds a frame.
+    pub fn frame(&mut self, code: u8, parts: &[&[u8]]) {
+        let payload = parts.concat();
+        self.bytes.push(code);
+        self.bytes.extend((payload.len() as u16).to_be_bytes());
+        self.bytes.extend(payload);
+    }
+
+    /// Frame 1, and the traffic's register goes on by it.
+    pub fn call(&mut self, room: usize, message: &[u8]) {
+        self.frame(1, &[&(room as u16).to_be_bytes(), message]);
+        if room <= WIDEST {
+            self.traffic.receive(message, room);
+        }
+    }
+
+    /// Frame 2.
+    pub fn outcome(&mut self, account: u16, number: u32) {
+        self.frame(2, &[&account.to_be_bytes(), &number.to_be_bytes()]);
+    }
+
+    /// Frame 5, and the traffic's register goes on by it.
+    pub fn disturb(&mut self, account: u16, (field, place, value): (u8, u8, u32)) {
+        self.frame(5, &[&account.to_be_bytes(), &[field, place], &value.to_be_bytes()]);
+        if usize::from(account) < ACCOUNTS {
+            let mut image = self.image(account);
+            if image.disturb(field, place, value) {
+                self.traffic.register.put(usize::from(account), image);
+            }
+        }
+    }
+
+    /// Frame 6.
+    pub fn show(&mut self, account: u16) {
+        self.frame(6, &[&account.to_be_bytes()]);
+    }
+
+    /// The stored form of an account.
+    pub fn image(&self, account: u16) -> Image {
+        self.traffic.register.image(usize::from(account))
+    }
+
+    /// The next message in a call, and often a look at the account.
+    pub fn step(&mut self) {
+        let message = self.traffic.compose();
+        let room = self.traffic.random.pick(&[ROOM, ROOM, ROOM, 316, 500, WIDEST]);
+        self.call(room, &message.bytes(&Rules::DOCUMENT));
+        self.look(message.account);
+    }
+
+    /// Now and then a show or an outcome question.
+    pub fn look(&mut self, account: u16) {
+        if self.traffic.random.chance(30) {
+            self.show(account);
+        }
+        if self.traffic.random.chance(20) {
+            self.question(account);
+        }
+    }
+
+    /// An outcome question below, at or above 2 to the power u.
+    pub fn question(&mut self, account: u16) {
+        let kept = self.traffic.register.account(usize::from(account % 16));
+        let outcomes = kept.map_or(1, |kept| kept.outcomes().len() as u64);
+        let random = &mut self.traffic.random;
+        let number = match random.below(8) {
+            0 => outcomes,
+            1 => outcomes - 1,
+            2 => random.number(),
+            3 => random.pick(&[256, 1 << 8, 1 << 16, u64::from(u32::MAX)]),
+            _ => random.below(outcomes),
+        };
+        let account = if random.chance(4) { random.pick(&[16, 256, 65_535]) } else { account };
+        self.outcome(account, number as u32);
+    }
+}
+
+/// Input about as long as the probe takes, or longer.
+fn longest(frames: &mut Frames) {
+    if frames.traffic.random.chance(12) {
+        return longest_lines(frames);
+    }
+    let length = match frames.traffic.random.below(4) {
+        0 => LONGEST,
+        1 => LONGEST + 1 + frames.traffic.random.below(5_000) as usize,
+        2 => LONGEST - frames.traffic.random.below(16) as usize,
+        _ => LONGEST + 1,
+    };
+    while frames.bytes.len() + 100 < length {
+        frames.step();
+    }
+    if frames.traffic.random.chance(60) {
+        let left = length - frames.bytes.len() - 3;
+        let payload = frames.traffic.random.bytes(left);
+        frames.frame(3, &[&payload]);
+    }
+    frames.bytes.resize(length, 6);
+}
+
+/// As many of the longest lines as an input can ask for: every number of an account is the highest.
+fn longest_lines(frames: &mut Frames) {
+    let most = u32::MAX;
+    let account = frames.traffic.random.below(16) as u16;
+    for change in [(0, 0, 1), (1, 0, most), (2, 0, most), (3, 0, most)] {
+        frames.disturb(account, change);
+    }
+    for place in 0..16 {
+        for change in [(4, place, most), (5, place, most), (6, place, 3), (7, place, most), (8, place, 1)] {
+            frames.disturb(account, change);
+        }
+    }
+    while frames.bytes.len() + 5 <= LONGEST {
+        frames.show(account);
+    }
+}
+
+/// The bytes with every code that a frame has from 64 on made lower.
+fn below_64(mut bytes: Vec<u8>) -> Vec<u8> {
+    let mut at = 0;
+    while at < bytes.len() {
+        bytes[at] %= DESCRIBED_ELSEWHERE;
+        let Some((_, payload, _)) = crate::probe::split(&bytes[at..]) else { break };
+        at += 3 + payload.len();
+    }
+    bytes
+}

@@ -1,0 +1,34 @@
+//! Seeded streams of bytes for the program and for the probe.
+
+pub mod amount;
+pub mod codecs;
+pub mod disturbance;
+pub mod frames;
+pub mod messages;
+pub mod traffic;
+
+use crate::random::Random;
+use crate::subject::Target;
+
+/// A stream: which program it is for, what it is after, and its bytes.
+#[derive(Clone, Debug)]
+pub struct Stream {
+    pub target: Target,
+    pub after: &'static str,
+    pub bytes: Vec<u8>,
+}
+
+/// The stream with a number under a seed; the kinds take turns.
+pub fn stream(target: Target, seed: u64, number: u64) -> Stream {
+    let kinds: &[&'static str] = match target {
+        Target::Program => &messages::KINDS,
+        Target::Probe => &frames::KINDS,
+    };
+    let kind = (number % kinds.len() as u64) as usize;
+    let random = Random::of(seed ^ target as u64, number);
+    let bytes = match target {
+        Target::Program => messages::stream(kind, random),
+        Target::Probe => frames::stream(kind, random),
+    };
+    Stream { target, after: kinds[kind], bytes }
+}

@@ -1,0 +1,52 @@
+-- The length of a commit's entries and of an abort's, from how many were applied and how many votes followed: entries of one kind have one length.
+-- Assumes nothing.
+use Prim.Native.Nat.{ℕ, _+_, _*_}
+use native.Mathlib.Nat.{mul-zero, mul-suc}
+use native.Mathlib.Omega.{arith}
+use mathlib.Core.Path.{_≡_, refl, sym}
+use mathlib.Core.Bool.{Bool, true, false, _&&_, false≢true}
+use mathlib.Core.List.{List, [], _∷_, _++_}
+use lib.ListN.{length}
+use Rattle.rule.specs.Lists.{every}
+use Rattle.account.specs.declared.Told.{Told}
+use Rattle.account.specs.declared.Told.the-variants.{Accepted, Rejected, Held, Noted, Applied, Dropped}
+use Rattle.account.specs.declared.Entry.{Entry}
+use Rattle.layout.specs.Fields.{rowOf}
+use Rattle.entry.specs.Bytes.{entryRows, lengthOfTold, wholesOf}
+use Rattle.entry.specs.Longest.{isApplied, isVote, Sized, CallsSized}
+use Rattle.entry.proofs.Booleans.{both}
+use Rattle.entry.proofs.Stored.{wholes-append}
+
+applied-length : (told : Told) → isApplied told ≡ true → lengthOfTold told ≡ 20
+unfolding lengthOfTold rowOf entryRows
+applied-length (Accepted e n) h = absurd (false≢true h)
+applied-length (Rejected e n) h = absurd (false≢true h)
+applied-length (Held e n) h = absurd (false≢true h)
+applied-length Noted h = absurd (false≢true h)
+applied-length (Applied e n) h = refl
+applied-length (Dropped e) h = absurd (false≢true h)
+
+vote-length : (told : Told) → isVote told ≡ true → lengthOfTold told ≡ 18
+unfolding lengthOfTold rowOf entryRows
+vote-length (Accepted e n) h = refl
+vote-length (Rejected e n) h = refl
+vote-length (Held e n) h = refl
+vote-length Noted h = absurd (false≢true h)
+vote-length (Applied e n) h = absurd (false≢true h)
+vote-length (Dropped e) h = absurd (false≢true h)
+
+-- entries that all have one length
+same-lengths : (size : ℕ) (test : Told → Bool) → ((told : Told) → test told ≡ true → lengthOfTold told ≡ size) → (xs : List Entry)
+    → every (λ (x : Entry). test (x .told)) xs ≡ true → wholesOf xs ≡ size * length xs
+unfolding wholesOf
+same-lengths size test each [] h = sym (mul-zero size)
+same-lengths size test each (x ∷ xs) h =
+    let p = both (test (x .told)) (every (λ (y : Entry). test (y .told)) xs) h in
+    rw (each (x .told) (p .0), same-lengths size test each xs (p .1), mul-suc) (omega arith)
+
+pub calls-sized : CallsSized
+unfolding wholesOf lengthOfTold rowOf entryRows
+calls-sized applied votes p q =
+    let a = same-lengths 20 isApplied applied-length applied p in
+    let v = same-lengths 18 isVote vote-length votes q in
+    record { commit = λ t s. rw (wholes-append, a, v); abort = λ t s e. rw (wholes-append, a, v) }

@@ -1,0 +1,32 @@
+-- When the writers of entries and of lines refuse, and what they leave (document 01, "Numbers given when a call is not taken").
+-- Assumes nothing.
+use Prim.Native.Nat.{ℕ, _<_}
+use mathlib.Core.Path.{_≡_}
+use mathlib.Core.List.{List, [], _∷_}
+use lib.Dec.{ltb}
+use lib.ListN.{length}
+use Rattle.account.specs.declared.Entry.{Entry}
+use Rattle.account.specs.declared.Entries.{Entries}
+use Rattle.layout.specs.Answers.{given, test, firstOf, Stays}
+use Rattle.entry.specs.Bytes.{bytesOfEntries, listOf}
+use Rattle.entry.specs.Answers.{longestCall, writeOf}
+use Rattle.entry.specs.Text.{longestLine, writeLineOf}
+
+-- 4 exactly if "entry buffer under 315 bytes", or if the entries do not fit; of a step's entries the second never holds (Longest)
+abbrev pub WriterRefuses : Type 0
+WriterRefuses =
+    (entries : Entries) (account : ℕ) (buffer : List ℕ)
+    → given (writeOf entries account buffer .answer) .refusal
+    ≡ firstOf (test (ltb (length buffer) longestCall) 4 ∷ test (ltb (length buffer) (length (bytesOfEntries account (listOf entries)))) 4 ∷ [])
+
+abbrev pub WriterStays : Type 0
+WriterStays = (entries : Entries) (account : ℕ) (buffer : List ℕ) → Stays buffer (writeOf entries account buffer)
+
+-- a line is refused exactly if the buffer is too short for the longest
+abbrev pub LineRefuses : Type 0
+LineRefuses =
+    (e : Entry) (account : ℕ) (buffer : List ℕ) → given (writeLineOf e account buffer .answer) .refusal ≡ firstOf (test (ltb (length buffer) longestLine) 4 ∷ [])
+
+-- an account's number has 2 bytes
+abbrev pub LineStays : Type 0
+LineStays = (e : Entry) (account : ℕ) (buffer : List ℕ) → account < 65536 → Stays buffer (writeLineOf e account buffer)
