@@ -159,7 +159,7 @@ module _ {S : Type 0} (R : Rule S Event ℕ) where
       go none = step-within a m p h
 
 -- the entries of a step are those of the rule's call, in their places
-listed : (xs : List RuleEntry) → listOf (entriesOf xs) ≡ map entryOf xs
+pub listed : (xs : List RuleEntry) → listOf (entriesOf xs) ≡ map entryOf xs
 unfolding entriesOf
 listed xs = take-at (map entryOf xs) (replicate (most - length xs) blankEntry) (length xs) (length-map xs entryOf)
 

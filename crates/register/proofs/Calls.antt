@@ -28,12 +28,12 @@ use Rattle.message.specs.Bytes.{messages, headingOf, messageOf, messageBy}
 use Rattle.message.specs.Answers.{readNumbers, readKind, readOf}
 use Rattle.entry.specs.Bytes.{bytesOfEntries, listOf}
 use Rattle.entry.specs.Answers.{longestCall, writeOf}
+use Rattle.entry.proofs.CallFits.{calls-fit}
 use Rattle.register.specs.declared.Register.{Register}
 use Rattle.register.specs.declared.Called.{Called}
 use Rattle.register.specs.declared.Answer.the-variants.{Refused, Taken}
 use Rattle.register.specs.Register.{accountAt, withAccount, ruleMessage, stepBy}
 use Rattle.register.specs.Call.{Result, Refusing, readingNumber, stepNumber, refusedWith, afterStep, afterMessage, afterReading, callOf}
-use Rattle.register.proofs.Room.{step-room}
 
 -- the heading of a message is the one that it was made with
 heading-kept : (kind amount : ℕ) (h : Heading) → headingOf (messageBy kind h amount) ≡ h
@@ -107,27 +107,22 @@ module _ (r : Register) (bytes buffer : List ℕ) where
         refusal-gives k called (rw (← q, e, le-ltb (length buffer) longestCall l, ← s, f, same)) h
 
     -- the entries fit
-    room-there : stepped .answer ≡ Step′.Taken → length (bytesOfEntries (headingOf m .account) (listOf (stepped .entries))) ≤ length buffer
-    room-there f =
-        omega (
-          arith,
-          l,
-          rw (← s) at (step-room (accountAt r (headingOf m .account)) (ruleMessage m) (headingOf m .account) (rw (← s) f)),
-        )
+    room-there : length (bytesOfEntries (headingOf m .account) (listOf (stepped .entries))) ≤ length buffer
+    room-there = omega (arith, l, rw (← s) at (calls-fit (accountAt r (headingOf m .account)) (ruleMessage m) .bytes (headingOf m .account)))
 
-    entries-written : stepped .answer ≡ Step′.Taken
-        → writeOf (stepped .entries) (headingOf m .account) buffer ≡ record {
+    entries-written :
+        writeOf (stepped .entries) (headingOf m .account) buffer ≡ record {
           answer = Writing′.Written (length (bytesOfEntries (headingOf m .account) (listOf (stepped .entries))));
           buffer = laidOver (bytesOfEntries (headingOf m .account) (listOf (stepped .entries))) buffer;
         }
     unfolding writeOf
-    entries-written f =
-        rw (le-ltb (length buffer) longestCall l, le-ltb (length buffer) (length (bytesOfEntries (headingOf m .account) (listOf (stepped .entries)))) (room-there f))
+    entries-written =
+        rw (le-ltb (length buffer) longestCall l, le-ltb (length buffer) (length (bytesOfEntries (headingOf m .account) (listOf (stepped .entries)))) room-there)
 
     -- so they are not refused,
     never-refused : (w : Writing) (n : ℕ) → stepped .answer ≡ Step′.Taken → w ≡ writeOf (stepped .entries) (headingOf m .account) buffer .answer → w ≡ Writing′.Refused n → ⊥
     never-refused w n f p z =
-        let t : w ≡ Writing′.Written (length (bytesOfEntries (headingOf m .account) (listOf (stepped .entries)))) = p ∙ rw (entries-written f) in
+        let t : w ≡ Writing′.Written (length (bytesOfEntries (headingOf m .account) (listOf (stepped .entries)))) = p ∙ rw entries-written in
         let y : _≡_ {A = ℕ} 0 1 = cc in omega arith
 
     -- and the message is taken
@@ -137,11 +132,11 @@ module _ (r : Register) (bytes buffer : List ℕ) where
     unfolding callOf afterMessage
     taken-gives w n left next f p z k g =
         let t : n ≡ length (bytesOfEntries (headingOf m .account) (listOf (stepped .entries))) =
-        let y : Writing′.Written n ≡ Writing′.Written (length (bytesOfEntries (headingOf m .account) (listOf (stepped .entries)))) = sym z ∙ p ∙ rw (entries-written f) in cc
+        let y : Writing′.Written n ≡ Writing′.Written (length (bytesOfEntries (headingOf m .account) (listOf (stepped .entries)))) = sym z ∙ p ∙ rw entries-written in cc
         in (
           rw (← q, e, le-ltb (length buffer) longestCall l, ← s, f, t),
           g ∙ rw (← q, e, le-ltb (length buffer) longestCall l, ← s, f),
-          k ∙ rw (entries-written f, ← q, e, le-ltb (length buffer) longestCall l, ← s, f),
+          k ∙ rw (entries-written, ← q, e, le-ltb (length buffer) longestCall l, ← s, f),
         )
 
   -- the same by the heading that the code has at hand

@@ -19,14 +19,14 @@ use Rattle.register.specs.declared.Register.{Register}
 use Rattle.register.specs.Register.{accountAt, ruleMessage}
 use Rattle.register.specs.Call.{afterStep, afterMessage, callOf}
 use Rattle.register.specs.Demands.{ruledBy, AsTheRule, Demand2}
-use Rattle.register.proofs.Listed.{entries-listed}
+use Rattle.entry.proofs.CallFits.{listed}
 use Rattle.register.proofs.Seconds.{seconds-never-matter}
 
 -- the rule's answer, in places and from them in bytes
 answer-ruled : (r : Register) (buffer : List ℕ) (i consumed : ℕ) (a : Account) (next : RuleAccount) (answer : rule-call.Answer ℕ Event ℕ)
     → afterStep r buffer i consumed (calledBy a next answer .answer) (calledBy a next answer .account) (calledBy a next answer .entries) ≡ ruledBy r buffer i consumed next answer
 answer-ruled r buffer i consumed a next (rule-call.refused n) = refl
-answer-ruled r buffer i consumed a next (rule-call.taken xs) = rw (entries-listed xs)
+answer-ruled r buffer i consumed a next (rule-call.taken xs) = rw (listed xs)
 
 as-the-rule : AsTheRule
 unfolding callOf afterMessage stepOf

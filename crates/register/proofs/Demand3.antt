@@ -53,7 +53,7 @@ use Rattle.register.specs.Call.{Result, refusedWith, afterStep, afterMes
 use Rattle.register.specs.Fits.{EventFits, CommitFits, StateFits, BalanceFits}
 use Rattle.register.specs.Sequence.{Input, Exchange, after, exchanges, answerIn, seenOf, seenBy, entriesIn}
 use Rattle.register.specs.Demands.{ByteStrings, Demand3}
-use Rattle.register.proofs.Listed.{entries-listed}
+use Rattle.entry.proofs.CallFits.{listed}
 use Rattle.register.proofs.ReadBack.{entries-back}
 
 abbrev Fit : RuleAccount → Type 0
@@ -125,7 +125,7 @@ module _ (r : Register) (buffer : List ℕ) (m : Message) (consumed : ℕ) (w : 
       let said = call-says panel EventFits CommitFits StateFits BalanceFits balance-kept (λ s h. h) (k .lists) (ruleMessage m) (k .fit) (message-fits m w) in
       let bytes = bytesOfEntries j (listOf (entriesOf xs)) in
       let back : entriesIn (take (length bytes) (laidOver bytes buffer)) ≡ xs =
-      ap entriesIn (take-at bytes (drop (length bytes) buffer) (length bytes) refl) ∙ ap (λ (l : List Entry). entriesIn (bytesOfEntries j l)) (entries-listed xs)
+      ap entriesIn (take-at bytes (drop (length bytes) buffer) (length bytes) refl) ∙ ap (λ (l : List Entry). entriesIn (bytesOfEntries j l)) (listed xs)
       ∙ entries-back j xs (w .account) (rw q at (said .1))
       in (
         length-set (r .accounts) j (accountOf (called .account)) ∙ sixteen,

@@ -1,6 +1,4 @@
 pub mod Unchanged
-pub mod Listed
-pub mod Room
 pub mod ReadBack
 pub mod Demand3
 pub mod OtherSecond

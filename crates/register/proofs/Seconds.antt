@@ -39,7 +39,7 @@ use Rattle.register.specs.Call.{writtenOf, Result, refusedWith, afterSte
 use Rattle.register.specs.Sequence.{Input, exchanges}
 use Rattle.register.specs.Seconds.{OtherSecond, OtherSeconds, none, one-more, SameEntries, no-entry, SameExchanges, none-seen, one-seen}
 use Rattle.register.specs.Demands.{SecondsNeverMatter}
-use Rattle.register.proofs.Listed.{entries-listed}
+use Rattle.entry.proofs.CallFits.{listed}
 use Rattle.register.proofs.OtherSecond.{forget, SameReading, same-refusal, same-message, reading-same, entries-same, same-length}
 
 -- two accounts in order whose lists differ only in their seconds
@@ -134,7 +134,7 @@ module _ (r r′ : Register) (buffer : List ℕ) (same : SameRegister r r′) wh
     stepped-same a a′ next next′ (rule-call.taken xs) (rule-call.refused n′) h e = let z : _≡_ {A = ℕ} 0 1 = cc in absurd (omega arith)
     stepped-same a a′ next next′ (rule-call.taken xs) (rule-call.taken xs′) h e =
         let k : map (entryThrough forget) xs ≡ map (entryThrough forget) xs′ = cc in
-        rw (entries-listed xs, entries-listed xs′)
+        rw (listed xs, listed xs′)
         (laid-same (accountOf next) (accountOf next′) (bytesOfEntries i (map entryOf xs)) (bytesOfEntries i (map entryOf xs′)) h (entries-same i xs xs′ k))
 
     message-same : (m m′ : Message) → headingOf m .account ≡ i → headingOf m′ .account ≡ i → messageThrough forget (ruleMessage m) ≡ messageThrough forget (ruleMessage m′)
@@ -208,4 +208,4 @@ fresh-same =
     }
 
 pub seconds-never-matter : SecondsNeverMatter
-seconds-never-matter inputs inputs′ b b′ other = calls-same freshRegister freshRegister fresh-same other
+seconds-never-matter inputs inputs′ other = calls-same freshRegister freshRegister fresh-same other

@@ -60,7 +60,7 @@ AsTheRule =
 -- "Two message sequences that differ only in their seconds, each sent to a fresh register with equal buffers, receive equal answers, and entries equal but for the seconds."
 abbrev pub SecondsNeverMatter : Type 0
 SecondsNeverMatter =
-    (inputs inputs′ : List Input) → ByteStrings inputs → ByteStrings inputs′ → OtherSeconds inputs inputs′
+    (inputs inputs′ : List Input) → OtherSeconds inputs inputs′
     → SameExchanges (exchanges freshRegister inputs) (exchanges freshRegister inputs′)
 
 pub record Demand2 : Type 0 where
