@@ -19,6 +19,8 @@ use Rattle.register.specs.declared.Register.{Register}
 use Rattle.register.specs.Register.{accountAt, ruleMessage}
 use Rattle.register.specs.Call.{afterStep, afterMessage, callOf}
 use Rattle.register.specs.Demands.{ruledBy, AsTheRule, Demand2}
+use Rattle.rule.proofs.Exact.{numbered, exact, decided}
+use Rattle.account.proofs.Panel.{effect-table}
 use Rattle.entry.proofs.CallFits.{listed}
 use Rattle.register.proofs.Seconds.{seconds-never-matter}
 
@@ -36,4 +38,14 @@ as-the-rule r bytes buffer m consumed read room order =
     rw (read, le-ltb (length buffer) longestCall room, order) (answer-ruled r buffer i consumed (accountAt r i) (called .account) (called .answer))
 
 pub demand2 : Demand2
-demand2 = record { decided = as-the-rule; written-read = reads-written; read-written = writes-read; seconds = seconds-never-matter }
+demand2 =
+    record {
+      decided = as-the-rule;
+      weighed = exact panel;
+      counted = λ e s progress held. decided panel e s progress held;
+      numbers = numbered panel;
+      effects = effect-table;
+      written-read = reads-written;
+      read-written = writes-read;
+      seconds = seconds-never-matter;
+    }

@@ -6,11 +6,12 @@ use mathlib.Core.Bool.{true}
 use mathlib.Core.List.{List, [], _∷_, map}
 use lib.ListN.{length}
 use Rattle.rule.specs.Call.{Answer, refused, taken, Called, call}
+use Rattle.rule.specs.Exact.{Numbered, Exact, Decided}
 use Rattle.rule.specs.Demand as rule
 use Rattle.account.specs.declared.Event.{Event}
 use Rattle.account.specs.declared.State.{State}
-use Rattle.account.specs.Panel.{panel}
-use Rattle.account.specs.Places.{RuleAccount, listsOf, accountOf}
+use Rattle.account.specs.Panel.{guardOf, tableEffect, panel}
+use Rattle.account.specs.Places.{RuleSlot, RuleAccount, listsOf, accountOf}
 use Rattle.account.specs.Order.{orderOf}
 use Rattle.account.specs.Steps.{entryOf}
 use Rattle.layout.specs.Number.{AreBytes}
@@ -50,7 +51,7 @@ abbrev pub Demand1 : Type 0
 Demand1 = (r : Register) (bytes buffer : List ℕ) → Checked r bytes buffer
 
 -- Demand 2. Each request is decided as the rule says: of a message that was read, with room for its entries, to an account in order, the account that follows and the answer
--- are those of the rule's call on the account's lists, with the guards and effects of the first panel; `Exact` and `Decided` of the rule say what that call decides.
+-- are those of the rule's call on the account's lists.
 abbrev pub AsTheRule : Type 0
 AsTheRule =
     (r : Register) (bytes buffer : List ℕ) (m : Message) (consumed : ℕ) → readOf bytes ≡ Reading′.Message m consumed → longestCall ≤ length buffer
@@ -65,6 +66,14 @@ SecondsNeverMatter =
 
 pub record Demand2 : Type 0 where
   pub decided : AsTheRule
+  -- "accepted if its guard holds in every outcome, rejected if in none, held if in some only", by the outcomes' numbers, and each exactly if;
+  pub weighed : (e : Event) (progress : List RuleSlot) (s : State) → Exact panel e progress s
+  -- what is held without being weighed, and the count of those that are weighed, 2 to the power u;
+  pub counted : (e : Event) (s : State) (progress held : List RuleSlot) → Decided panel e s progress held
+  -- what the numbers of outcomes say;
+  pub numbers : (progress : List RuleSlot) (s : State) → Numbered panel progress s
+  -- "with the guards and effects of the listed events": wherever a guard holds, the effect is the table's
+  pub effects : (e : Event) (s : State) → guardOf e s ≡ true → panel .effect e s ≡ tableEffect e s
   -- "Messages are written and read by the listed layout, each the inverse of the other."
   pub written-read : ReadsWritten
   pub read-written : WritesRead
