@@ -20,13 +20,8 @@ use Rattle.account.specs.Panel.{room, bench, panel}
 use Rattle.account.specs.Places.{RuleSlot, RuleAccount, placeOf, blank, used, padded, listsOf, accountOf}
 use Rattle.account.specs.Order.{isBlank, orderOf}
 use Rattle.account.specs.Steps.{calledBy, stepOf}
-use Rattle.account.proofs.Padded.{used-padded}
+use Rattle.account.proofs.Padded.{lists-account}
 use Rattle.account.proofs.Panel.{panel-call-order}
-
--- an account of lists has those lists
-pub lists-account : (a : RuleAccount) → listsOf (accountOf a) ≡ a
-unfolding listsOf accountOf
-lists-account a = rw (used-padded room (a .progress), used-padded bench (a .held))
 
 -- behind them only blanks
 blanks : (n : ℕ) → every isBlank (replicate n blank) ≡ true

@@ -10,6 +10,7 @@ use lib.ListN.{length, take, drop, replicate, take-append-drop, length-drop}
 use borrow.Author.Tests.{leb-true, eqb-true}
 use Rattle.rule.specs.Lists.{every}
 use Rattle.rule.proofs.Lists.{and-left, and-right}
+use Rattle.rule.proofs.Order.{order-clauses}
 use Rattle.rule.specs.Order as rule
 use Rattle.account.specs.declared.Event.{Event}
 use Rattle.account.specs.declared.Event.the-variants.{Open, Withdraw, Deposit, Close}
@@ -17,7 +18,7 @@ use Rattle.account.specs.declared.Decision.{Decision}
 use Rattle.account.specs.declared.Decision.the-variants.{Undecided, Committed}
 use Rattle.account.specs.declared.Slot.{Slot}
 use Rattle.account.specs.declared.Account.{Account}
-use Rattle.account.specs.Panel.{panel, room, bench, stateFits}
+use Rattle.account.specs.Panel.{panel, room, bench}
 use Rattle.account.specs.Places.{RuleAccount, blank, used, padded, listsOf, accountOf}
 use Rattle.account.specs.Order.{isUndecided, isOpenZero, isBlank, orderOf}
 use Rattle.account.proofs.Padded.{places-slots}
@@ -34,36 +35,20 @@ no-decision : (d : Decision) → isUndecided d ≡ true → d ≡ Undecided
 no-decision Undecided h = refl
 no-decision Committed h = absurd (false≢true h)
 
-four : (a b c d : Bool) → (a && b && c && d) ≡ true → (a ≡ true) × (b ≡ true) × (c ≡ true) × (d ≡ true)
-four true true true true h = (refl, refl, refl, refl)
-four true true true false h = absurd (false≢true h)
-four true true false d h = absurd (false≢true h)
-four true false c d h = absurd (false≢true h)
-four false b c d h = absurd (false≢true h)
-
-five : (a b c d e : Bool) → (a && b && c && d && e) ≡ true → (a ≡ true) × (b ≡ true) × (c ≡ true) × (d ≡ true) × (e ≡ true)
-five true true true true true h = (refl, refl, refl, refl, refl)
-five true true true true false h = absurd (false≢true h)
-five true true true false e h = absurd (false≢true h)
-five true true false d e h = absurd (false≢true h)
-five true false c d e h = absurd (false≢true h)
-five false b c d e h = absurd (false≢true h)
-
-third : (a b c d e f g : Bool) → (a && b && c && d && e && f && g) ≡ true → c ≡ true
-third true true true d e f g h = refl
-third true true false d e f g h = absurd (false≢true h)
-third true false c d e f g h = absurd (false≢true h)
-third false b c d e f g h = absurd (false≢true h)
-
 blank-place : (x : Slot) → isBlank x ≡ true → x ≡ blank
 blank-place x h =
-    let p = four (eqb (x .transaction) 0) (eqb (x .second) 0) (isOpenZero (x .event)) (isUndecided (x .decision)) h in
+    let t = eqb (x .transaction) 0 in
+    let g = eqb (x .second) 0 in
+    let e = isOpenZero (x .event) in
+    let d = isUndecided (x .decision) in
+    let three = and-left (t && g && e) d h in
+    let two = and-left (t && g) e three in
     λ i.
     record {
-      transaction = eqb-true (x .transaction) 0 (p .0) i;
-      second = eqb-true (x .second) 0 (p .1) i;
-      event = open-zero (x .event) (p .2) i;
-      decision = no-decision (x .decision) (p .3) i;
+      transaction = eqb-true (x .transaction) 0 (and-left t g two) i;
+      second = eqb-true (x .second) 0 (and-right t g two) i;
+      event = open-zero (x .event) (and-right (t && g) e three) i;
+      decision = no-decision (x .decision) (and-right (t && g && e) d h) i;
     }
 
 blank-places : (xs : List Slot) → every isBlank xs ≡ true → xs ≡ replicate (length xs) blank
@@ -94,12 +79,6 @@ account-lists a p q few fewHeld blanks blanksHeld = λ i.
       holding = sym (count-used (a .held) (a .holding) (omega arith)) i;
     }
 
-order-apart : (a : RuleAccount) → rule.order panel a ≡ true → rule.apart (a .progress ++ a .held) ≡ true
-unfolding rule.order
-order-apart a h =
-    third (rule.countsWithin panel a) (stateFits (a .state)) (rule.apart (a .progress ++ a .held)) (every rule.withoutDecision (a .held))
-    (rule.guarded panel (a .state) [] (a .progress)) (rule.oldestUndecided (a .progress)) (rule.oldestStaysHeld panel (a .state) (a .progress) (a .held)) h
-
 -- what order says of an account's places and transactions
 pub record Ordered (a : Account) : Type 0 where
   pub progressing : a .progressing ≤ room
@@ -110,14 +89,18 @@ pub record Ordered (a : Account) : Type 0 where
 pub ordered : (a : Account) → length (a .progress) ≡ room → length (a .held) ≡ bench → orderOf a ≡ true → Ordered a
 unfolding orderOf
 ordered a p q h =
-    let parts =
-    five (leb (a .progressing) room) (leb (a .holding) bench) (every isBlank (drop (a .progressing) (a .progress))) (every isBlank (drop (a .holding) (a .held))) (rule.order panel (listsOf a)) h
-    in
-    let few : a .progressing ≤ room = leb-true (a .progressing) room (parts .0) in
-    let fewHeld : a .holding ≤ bench = leb-true (a .holding) bench (parts .1) in
+    let c1 = leb (a .progressing) room in
+    let c2 = leb (a .holding) bench in
+    let c3 = every isBlank (drop (a .progressing) (a .progress)) in
+    let c4 = every isBlank (drop (a .holding) (a .held)) in
+    let h4 = and-left (c1 && c2 && c3 && c4) (rule.order panel (listsOf a)) h in
+    let h3 = and-left (c1 && c2 && c3) c4 h4 in
+    let h2 = and-left (c1 && c2) c3 h3 in
+    let few : a .progressing ≤ room = leb-true (a .progressing) room (and-left c1 c2 h2) in
+    let fewHeld : a .holding ≤ bench = leb-true (a .holding) bench (and-right c1 c2 h2) in
     record {
       progressing = few;
       holding = fewHeld;
-      lists = account-lists a p q few fewHeld (parts .2) (parts .3);
-      transactions = order-apart (listsOf a) (parts .4);
+      lists = account-lists a p q few fewHeld (and-right (c1 && c2) c3 h3) (and-right (c1 && c2 && c3) c4 h4);
+      transactions = order-clauses panel (listsOf a) (and-right (c1 && c2 && c3 && c4) (rule.order panel (listsOf a)) h) .transactions;
     }

@@ -32,7 +32,8 @@ use Rattle.account.specs.Panel.{limit, isNew, isOpened, guardOf, tableEffect, e
 use Rattle.account.specs.Places.{RuleAccount, listsOf, accountOf}
 use Rattle.account.specs.Steps.{RuleEntry, entryOf, entriesOf, most, blankEntry, calledBy, stepOf}
 use Rattle.account.proofs.Panel.{sound}
-use Rattle.account.proofs.Kept.{lists-account, step-account}
+use Rattle.account.proofs.Padded.{lists-account}
+use Rattle.account.proofs.Kept.{step-account}
 use Rattle.layout.specs.Number.{AreBytes}
 use Rattle.layout.specs.Answers.{laidOver}
 use Rattle.message.specs.declared.Message.{Message}

@@ -24,7 +24,8 @@ use Rattle.account.specs.Places.{RuleAccount, listsOf, accountOf}
 use Rattle.account.specs.Order.{orderOf}
 use Rattle.account.specs.Steps.{entryOf, calledBy, stepOf}
 use Rattle.account.proofs.Panel.{panel-call-order}
-use Rattle.account.proofs.Kept.{lists-account, order-account, order-lists}
+use Rattle.account.proofs.Padded.{lists-account}
+use Rattle.account.proofs.Kept.{order-account, order-lists}
 use Rattle.layout.specs.Fields.{lastAccount}
 use Rattle.layout.specs.Answers.{laidOver}
 use Rattle.message.specs.declared.Message.{Message}
