@@ -7,3 +7,7 @@ pub mod Demand2
 pub mod Demands
 pub mod Accounts
 pub mod Calls
+pub mod Moved
+pub mod Underway
+pub mod WholeRuns
+pub mod Alike

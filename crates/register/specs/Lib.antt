@@ -5,3 +5,4 @@ pub mod Sequence
 pub mod Fits
 pub mod Seconds
 pub mod Demands
+pub mod Run

@@ -1,5 +1,7 @@
 // The register: sixteen accounts side by side. A message changes the one that it names, in its place.
+mod export;
 mod place;
+mod runs;
 
 use account::Account;
 use account::Outlook;

@@ -1,0 +1,93 @@
+// A run of messages: they are sent to a fresh register one after the other, as the program does (document 01, "The program").
+use crate::Answer;
+use crate::Register;
+ghost use mathlib.Core.Path.{_≡_};
+ghost use Rattle.register.specs.Run.{runOf, passedOf, one, added, Countable};
+
+// What a run comes to: messages met, messages refused, bytes of messages passed, bytes of entries written.
+pub struct Ran {
+    pub met: usize,
+    pub refused: usize,
+    pub consumed: usize,
+    pub written: usize,
+}
+
+// What one message comes to, and whether the run stops at it.
+pub(crate) struct Passed {
+    pub refused: usize,
+    pub consumed: usize,
+    pub written: usize,
+    pub stops: bool,
+}
+
+// The run: each call gets the rest of the messages and the rest of the entry buffer.
+pub fn run(messages: &[u8], entries: &mut [u8]) -> Ran
+    ensures { λ r. ⌜ (r ≡ runOf (now (messages .entry)) (now (entries .entry)) .counts) × (now (entries .exit) ≡ runOf (now (messages .entry)) (now (entries .entry)) .entries) ⌝ }
+{
+    let mut register = Register::fresh();
+    let mut ran = Ran {
+        met: 0,
+        refused: 0,
+        consumed: 0,
+        written: 0,
+    };
+    while ran.consumed < messages.len() {
+        let at = ran.consumed;
+        let rest = &messages[at..];
+        let whole = message::whole_length(layout::number1(rest, 0));
+        let from = ran.written;
+        let called = register.call(rest, &mut entries[from..]);
+        let answer = called.answer;
+        let passed = passed_by(answer, whole);
+        ran = with_message(ran, passed);
+        if passed.stops {
+            return ran;
+        }
+        register = called.register;
+    }
+    ran
+}
+
+// What a message comes to, by its answer and its whole length.
+fn passed_by(answer: Answer, whole: usize) -> Passed
+    ensures { λ r. ⌜ r ≡ passedOf answer whole ⌝ }
+{
+    match answer {
+        Answer::Taken(consumed, written) => Passed {
+            refused: 0,
+            consumed: consumed,
+            written: written,
+            stops: false,
+        },
+        Answer::Refused(number) => {
+            if number <= 2 {
+                Passed {
+                    refused: 1,
+                    consumed: 0,
+                    written: 0,
+                    stops: true,
+                }
+            } else {
+                Passed {
+                    refused: 1,
+                    consumed: whole,
+                    written: 0,
+                    stops: false,
+                }
+            }
+        }
+    }
+}
+
+// The counts with one message more.
+fn with_message(ran: Ran, passed: Passed) -> Ran
+    requires { ⌜ Countable ran passed ⌝ }
+    ensures { λ r. ⌜ r ≡ added ran (one passed) ⌝ }
+{
+    Ran {
+        met: ran.met + 1,
+        refused: ran.refused + passed.refused,
+        consumed: ran.consumed + passed.consumed,
+        written: ran.written + passed.written,
+    }
+}
