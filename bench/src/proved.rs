@@ -12,8 +12,8 @@ pub const LINKED: bool = cfg!(feature = "proved");
 #[cfg(feature = "proved")]
 #[link(name = "register", kind = "static")]
 extern "C" {
-    /// Runs messages through a fresh register. `counts` receives messages met, messages refused
-    /// and bytes of entries written, in this order.
+    /// Runs messages through a fresh register. `counts` receives messages met, messages refused,
+    /// bytes of messages passed and bytes of entries written, in this order.
     fn nacozteya_run(
         messages: *const u8,
         messages_len: usize,
@@ -27,7 +27,7 @@ extern "C" {
 /// The run of messages by the proved register; it writes into the room lent.
 #[cfg(feature = "proved")]
 pub fn run(messages: &[u8], room: &mut [u8]) -> Run {
-    let mut counts = [0u64; 3];
+    let mut counts = [0u64; 4];
     // Each pointer goes with the length of the slice that it is taken from; the function
     // keeps none of them after it returns.
     unsafe {
@@ -40,7 +40,7 @@ pub fn run(messages: &[u8], room: &mut [u8]) -> Run {
             counts.len(),
         );
     }
-    let [met, refused, written] = counts;
+    let [met, refused, _consumed, written] = counts;
     let written = room.len().min(written as usize);
     Run { met, refused, entries: room[..written].to_vec() }
 }

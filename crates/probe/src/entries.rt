@@ -1,0 +1,80 @@
+// The entry reader, and an entry's line of text: frames 7 and 67.
+use crate::text;
+use crate::text::Page;
+use account::Entry;
+use account::Event;
+use account::Told;
+use entry::EntryReading;
+use layout::Writing;
+
+// Frame 7: the entry reader.
+pub(crate) fn read(payload: &[u8], page: &mut Page, at: usize) -> usize {
+    let reading = entry::read_entry(payload);
+    match reading {
+        EntryReading::Nothing => text::word(page, at, b"none"),
+        EntryReading::Found(found, account, length) => {
+            let end = put_found(found, account, page, at);
+            text::count(page, end, length)
+        }
+    }
+}
+
+// Frame 67: the line of text of an entry.
+pub(crate) fn line(payload: &[u8], page: &mut Page, at: usize) -> usize {
+    let reading = entry::read_entry(payload);
+    match reading {
+        EntryReading::Nothing => text::word(page, at, b"none"),
+        EntryReading::Found(found, account, _) => put_line(found, account, page, at),
+    }
+}
+
+// Puts the line of text of an entry, without its newline.
+fn put_line(found: Entry, account: u16, page: &mut Page, at: usize) -> usize {
+    let mut buffer = text::FILLED;
+    let writing = entry::write_line(found, account, &mut buffer);
+    match writing {
+        Writing::Refused(number) => text::refused(page, at, number),
+        Writing::Written(length) => text::line(page, at, &buffer, length),
+    }
+}
+
+// Puts an entry, with its account.
+fn put_found(found: Entry, account: u16, page: &mut Page, at: usize) -> usize {
+    let told = found.told;
+    let end = text::word(page, at, b"entry");
+    let end = text::field(page, end, kind_of(told));
+    let end = text::field(page, end, found.transaction);
+    let end = text::field(page, end, account as u32);
+    let end = text::field(page, end, found.second);
+    put_told(told, page, end, b' ')
+}
+
+// Puts what an entry of its kind has of event, amount, outcomes and balance, each behind a separator.
+pub(crate) fn put_told(told: Told, page: &mut Page, at: usize, separator: u8) -> usize {
+    match told {
+        Told::Accepted(event, weighed) => put_with(event, weighed, page, at, separator),
+        Told::Rejected(event, weighed) => put_with(event, weighed, page, at, separator),
+        Told::Held(event, weighed) => put_with(event, weighed, page, at, separator),
+        Told::Noted => at,
+        Told::Applied(event, balance) => put_with(event, balance, page, at, separator),
+        Told::Dropped(event) => text::event(page, at, separator, event),
+    }
+}
+
+// Puts an event and the number that follows it.
+fn put_with(event: Event, number: u32, page: &mut Page, at: usize, separator: u8) -> usize {
+    let end = text::event(page, at, separator, event);
+    text::part(page, end, separator, number)
+}
+
+// The kind of an entry.
+pub(crate) fn kind_of(told: Told) -> u32 {
+    match told {
+        Told::Accepted(_, _) => 17,
+        Told::Rejected(_, _) => 18,
+        Told::Held(_, _) => 19,
+        Told::Noted => 20,
+        Told::Applied(_, _) => 21,
+        Told::Dropped(_) => 22,
+    }
+}

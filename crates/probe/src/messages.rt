@@ -1,0 +1,93 @@
+// The message reader and the message writer: frames 3 and 4.
+use crate::text;
+use crate::text::Page;
+use layout::Writing;
+use message::Heading;
+use message::Message;
+use message::Reading;
+
+// Frame 3: the message reader.
+pub(crate) fn read(payload: &[u8], page: &mut Page, at: usize) -> usize {
+    let reading = message::read_message(payload);
+    match reading {
+        Reading::Refused(number) => text::refused(page, at, number),
+        Reading::Message(message, length) => {
+            let end = text::word(page, at, b"message");
+            let end = put_message(message, page, end);
+            text::count(page, end, length)
+        }
+    }
+}
+
+// Puts a message's kind, transaction, account, second and amount.
+fn put_message(message: Message, page: &mut Page, at: usize) -> usize {
+    match message {
+        Message::Request(heading, event) => {
+            let end = put_heading(layout::event_kind(event), heading, page, at);
+            text::field(page, end, layout::event_amount(event))
+        }
+        Message::Commit(heading) => {
+            let end = put_heading(5, heading, page, at);
+            text::field(page, end, 0)
+        }
+        Message::Abort(heading) => {
+            let end = put_heading(6, heading, page, at);
+            text::field(page, end, 0)
+        }
+    }
+}
+
+// Puts a message's kind, transaction, account and second.
+fn put_heading(kind: u8, heading: Heading, page: &mut Page, at: usize) -> usize {
+    let end = text::field(page, at, kind as u32);
+    let end = text::field(page, end, heading.transaction);
+    let end = text::field(page, end, heading.account as u32);
+    text::field(page, end, heading.second)
+}
+
+// Frame 4: the message writer, with a buffer of that room.
+pub(crate) fn write(payload: &[u8], page: &mut Page, at: usize) -> usize {
+    let kind = layout::number1(payload, 0);
+    let room = layout::number2(payload, 15) as usize;
+    if payload.len() != 17 {
+        return text::unknown(page, at);
+    }
+    if !is_kind(kind) {
+        return text::unknown(page, at);
+    }
+    if text::WIDEST < room {
+        return text::unknown(page, at);
+    }
+    let heading = Heading {
+        transaction: layout::number4(payload, 1),
+        account: layout::number2(payload, 5),
+        second: layout::number4(payload, 7),
+    };
+    let message = message_of(kind, heading, layout::number4(payload, 11));
+    let mut buffer = text::FILLED;
+    let writing = message::write_message(message, &mut buffer[0..room]);
+    match writing {
+        Writing::Refused(number) => {
+            let end = text::refused(page, at, number);
+            text::kept(page, end, &buffer, 0)
+        }
+        Writing::Written(length) => {
+            let end = text::word(page, at, b"written");
+            text::written(page, end, &buffer, length)
+        }
+    }
+}
+
+// Whether there are messages of that kind.
+pub(crate) fn is_kind(kind: u8) -> bool {
+    (1 <= kind) & (kind <= 6)
+}
+
+// The message of a kind 1 to 6.
+fn message_of(kind: u8, heading: Heading, amount: u32) -> Message {
+    match kind {
+        5 => Message::Commit(heading),
+        6 => Message::Abort(heading),
+        _ => Message::Request(heading, layout::event_of(kind, amount)),
+    }
+}

@@ -1,0 +1,82 @@
+// The single steps of an account, by value: frame 68.
+use crate::Answered;
+use crate::entries;
+use crate::messages;
+use crate::places;
+use crate::text;
+use crate::text::Page;
+use account::Account;
+use account::Answer;
+use account::Called;
+use account::Entries;
+use account::Entry;
+use register::Register;
+
+// The places for entries.
+const ENTRIES: usize = 17;
+
+// Frame 68: one step of an account; the register goes on with the account that the step handed back.
+pub(crate) fn step(register: Register, payload: &[u8], page: &mut Page, at: usize) -> Answered {
+    let number = layout::number2(payload, 0);
+    let kind = layout::number1(payload, 2);
+    if (payload.len() != 15) | !messages::is_kind(kind) {
+        return Answered::unknown(register, page, at);
+    }
+    if layout::LAST_ACCOUNT < number {
+        return Answered::unknown(register, page, at);
+    }
+    let named = places::account_of(register, number);
+    let called = stepped(named, kind, payload);
+    let answer = called.answer;
+    let following = called.account;
+    let entries = called.entries;
+    let end = put_answer(answer, page, at);
+    let end = put_entries(entries, page, end);
+    Answered {
+        register: places::with_account(register, number, following),
+        at: end,
+    }
+}
+
+// The step of that kind.
+fn stepped(account: Account, kind: u8, payload: &[u8]) -> Called {
+    let transaction = layout::number4(payload, 3);
+    let second = layout::number4(payload, 7);
+    let amount = layout::number4(payload, 11);
+    match kind {
+        5 => account.commit(transaction, second),
+        6 => account.abort(transaction, second),
+        _ => account.request(transaction, second, layout::event_of(kind, amount)),
+    }
+}
+
+// Puts what a step answers.
+fn put_answer(answer: Answer, page: &mut Page, at: usize) -> usize {
+    match answer {
+        Answer::Taken => text::word(page, at, b"taken"),
+        Answer::Refused(number) => text::refused(page, at, number),
+    }
+}
+
+// Puts the number of entries, and each place that is not blank.
+fn put_entries(entries: Entries, page: &mut Page, at: usize) -> usize {
+    let all = entries.at;
+    let mut end = text::count(page, at, entries.count);
+    for place in 0..ENTRIES {
+        end = put_entry(all[place], place, page, end);
+    }
+    end
+}
+
+// Puts an entry that is not blank.
+fn put_entry(entry: Entry, place: usize, page: &mut Page, at: usize) -> usize {
+    let told = entry.told;
+    if (entry.transaction == 0) & (entry.second == 0) & (entries::kind_of(told) == 20) {
+        return at;
+    }
+    let end = text::count(page, at, place);
+    let end = text::part(page, end, b'=', entries::kind_of(told));
+    let end = text::part(page, end, b':', entry.transaction);
+    let end = text::part(page, end, b':', entry.second);
+    entries::put_told(told, page, end, b':')
+}
