@@ -13,3 +13,4 @@ pub mod Sought
 pub mod Refusals
 pub mod Refused
 pub mod Kept
+pub mod Answers

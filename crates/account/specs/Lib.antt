@@ -8,3 +8,4 @@ pub mod Reached
 pub mod Rows
 pub mod Taken
 pub mod Cases
+pub mod Answers

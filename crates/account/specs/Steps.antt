@@ -4,6 +4,7 @@
 use Prim.Native.Nat.{ℕ, _-_, _^_}
 use mathlib.Core.Bool.{Bool, cond}
 use mathlib.Core.List.{List, [], _∷_, _++_, map}
+use mathlib.Core.Option.{Option, none, some}
 use lib.Dec.{ltb}
 use lib.ListN.{length, replicate}
 use Rattle.rule.specs.Rule as rule
@@ -29,10 +30,10 @@ use Rattle.account.specs.Order.{orderOf}
 abbrev pub RuleEntry : Type 0
 RuleEntry = rule.Entry ℕ Event ℕ
 
--- the number of a step's answer: a refusal's is that of document 01's list, and 0 says that the step was taken
-abbrev pub numberOf : Answer → ℕ
-numberOf (Answer′.Refused n) = n
-numberOf Answer′.Taken = 0
+-- what document 01 says of a step's answer: the number of its refusal, if it is one
+abbrev pub given : Answer → Option ℕ
+given (Answer′.Refused n) = some n
+given Answer′.Taken = none
 
 abbrev pub votedAs : rule.Verdict → Event → ℕ → Told
 votedAs rule.accept e n = Accepted e n
@@ -71,6 +72,16 @@ stepOf a m =
     cond (orderOf a)
     (calledBy a (rule-call.call panel (listsOf a) m .account) (rule-call.call panel (listsOf a) m .answer))
     (refusedBy a 5)
+
+-- what document 01 says of the outcome question's answer: the number of its refusal, if it is one, or the state and how many undecided events it applies
+pub record Told′ : Type 0 where
+  pub refusal : Option ℕ
+  pub state : Option State
+  pub applied : ℕ
+
+abbrev pub toldOf : Outlook → Told′
+toldOf (Outlook′.Refused n) = record { refusal = some n; state = none; applied = 0 }
+toldOf (Outlook′.State s n) = record { refusal = none; state = some s; applied = n }
 
 -- the outcome question: 5, then 12, "outcome number not below 2 to the power u"; else "the state in that outcome and how many undecided events it applies"
 unfoldable pub outlookOf : Account → ℕ → Outlook

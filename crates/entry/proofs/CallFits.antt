@@ -1,16 +1,16 @@
 -- A call's entries are its own, then those of the events applied, then votes. There are at most as many applied as events were in progress, and at
 -- most as many votes as requests were held; an event or a request that is dropped is not among them. By induction on both lists.
 -- Assumes nothing.
-use Prim.Native.Nat.{ℕ, suc, _+_, _*_, _-_, _≤_, _<_}
+use Prim.Native.Nat.{ℕ, suc, _+_, _*_, _-_, _≤_}
 use native.Mathlib.Nat.{mul-suc}
 use native.Mathlib.Omega.{arith}
-use mathlib.Core.Path.{_≡_, refl, ap, sym, _∙_}
+use mathlib.Core.Path.{_≡_, refl, _∙_}
 use mathlib.Core.Bool.{Bool, true, false, cond, _&&_, not}
 use mathlib.Core.List.{List, [], _∷_, _++_, map, map-append}
 use mathlib.Core.Option.{Option, none, some}
 use borrow.Author.Tests.{leb-true, ltb-false, le-ltb}
-use lib.Dec.{leb, ltb, eqb, lit≤}
-use lib.ListN.{length, take, drop, replicate, length-append, length-map, length-take}
+use lib.Dec.{leb, ltb, lit≤}
+use lib.ListN.{length, drop, replicate, length-append, length-map, length-take}
 use lib.Seq.{take-at}
 use Rattle.rule.specs.Lists.{every, keep}
 use Rattle.rule.specs.Rule as rule
@@ -18,18 +18,17 @@ use Rattle.rule.specs.Rule.{Rule, Slot, slot, undecided, committed, Verdict, ac
 use Rattle.rule.specs.Outcome.{outcomes}
 use Rattle.rule.specs.Weigh.{weigh, decide, decideBehind}
 use Rattle.rule.specs.Order as rule-order
-use Rattle.rule.specs.Step.{Step, named, mark, markOne, without, dropping, after, applications, settledState, unsettled, still, drainBy, drain, settle, asked, askedBy, committing, aborting, step}
+use Rattle.rule.specs.Step.{Step, named, mark, markOne, without, dropping, applications, settledState, unsettled, drainBy, drain, settle, asked, committing, aborting, step}
 use Rattle.rule.specs.Call as call
 use Rattle.account.specs.declared.Event.{Event}
 use Rattle.account.specs.declared.Slot.{Slot as Place}
 use Rattle.account.specs.declared.Account.{Account}
-use Rattle.account.specs.declared.Entry.{Entry}
 use Rattle.account.specs.Panel.{panel, room, bench, effectOf}
 use Rattle.account.specs.Places.{RuleAccount, listsOf, accountOf, used}
 use Rattle.account.specs.Order.{orderOf, isBlank}
 use Rattle.account.specs.Steps.{RuleEntry, entryOf, votedAs, entriesOf, blankEntry, most, stepOf, calledBy}
 use Rattle.layout.specs.Fields.{rowOf}
-use Rattle.layout.specs.Answers.{given, test, firstOf, wroteOver, refusedWith}
+use Rattle.layout.specs.Answers.{given, wroteOver, refusedWith}
 use Rattle.entry.specs.Bytes.{entryRows, lengthOfTold, bytesOfEntries, wholesOf, listOf}
 use Rattle.entry.specs.Answers.{longestCall, writeOf}
 use Rattle.entry.specs.Longest.{CallFits, CallsFit, CallsRefused, fullAccount, LongestThereIs}

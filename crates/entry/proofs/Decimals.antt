@@ -4,14 +4,14 @@
 use Prim.Native.Nat.{ℕ, zero, suc, _+_, _*_, _-_, _/_, _%_, _^_, _≤_, _<_}
 use native.Mathlib.Nat.{pow-suc, div-lt-iff-lt-mul}
 use native.Mathlib.Omega.{arith}
-use mathlib.Core.Path.{_≡_, refl, ap, sym, _∙_}
+use mathlib.Core.Path.{_≡_, refl}
 use mathlib.Core.Bool.{Bool, true, false, cond, _&&_}
 use mathlib.Core.List.{List, [], _∷_, _++_}
 use borrow.Author.Tests.{le-leb, lt-ltb, ltb-true, ltb-false}
 use lib.Dec.{leb, ltb, lit<}
-use lib.ListN.{length, getD}
+use lib.ListN.{getD}
 use Rattle.rule.specs.Lists.{every}
-use Rattle.entry.specs.Text.{decimalIn, lineOf, longestLine}
+use Rattle.entry.specs.Text.{decimalIn, lineOf}
 use Rattle.entry.specs.Decimal.{valueFrom, Decimal, Decimals, LongestLineIs}
 use Rattle.entry.proofs.Booleans.{both}
 

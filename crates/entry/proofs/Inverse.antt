@@ -1,18 +1,18 @@
 -- Reader and writer of entries are inverse, as those of messages are: the numbers of an entry are read back by the law on fields, and an entry is
 -- its numbers; what was read was read by a row of the table, whose widths make up its length, so the law on fields gives its bytes.
 -- Assumes nothing.
-use Prim.Native.Nat.{ℕ, _+_, _≤_, _<_, _^_}
+use Prim.Native.Nat.{ℕ, _+_, _≤_, _<_}
 use native.Mathlib.Omega.{arith}
 use mathlib.Core.Path.{_≡_, refl, ap, ap₂, sym, _∙_}
 use mathlib.Core.Bool.{Bool, true, false, cond, _&&_, _||_, not}
-use mathlib.Core.List.{List, [], _∷_, _++_}
+use mathlib.Core.List.{List, [], _++_}
 use mathlib.Core.Option.{Option, none, some}
 use borrow.Author.Tests.{ltb-false, eqb-true, eqb-false, leb-true}
-use lib.Dec.{eqb, leb, ltb, lit<}
+use lib.Dec.{eqb, leb, ltb}
 use lib.ListN.{length, getD, take, drop, length-append}
 use Rattle.account.specs.declared.Entry.{Entry}
-use Rattle.layout.specs.Number.{numberAt, AreBytes}
-use Rattle.layout.specs.Fields.{Row, rowOf, wholeOf, thenOf, widthsOf, numbersAt, written, total, lastAccount}
+use Rattle.layout.specs.Number.{numberAt}
+use Rattle.layout.specs.Fields.{Row, rowOf, wholeOf, thenOf, widthsOf, numbersAt, total, lastAccount}
 use Rattle.layout.specs.Events.{eventKind, amountOf, eventOf}
 use Rattle.layout.proofs.Numbers.{numberAt-fits}
 use Rattle.layout.proofs.Fields.{Fit, fit-heading, numbersAt-fit, numbersAt-written, written-numbersAt}
@@ -21,7 +21,7 @@ use Rattle.entry.specs.declared.EntryReading.{EntryReading}
 use Rattle.entry.specs.declared.EntryReading.the-variants.{Found, Nothing}
 use Rattle.entry.specs.Bytes.{entryRows, kindOf, thenNumbers, numbersOf, bytesOfEntry, lengthOfTold, toldBy, entryOf}
 use Rattle.entry.specs.Answers.{eventFits, thenFits, readNumbers, readKind, readOf}
-use Rattle.entry.specs.Inverse.{amountIn, weighedIn, balanceIn, Writable, ReadsWritten, Read, WritesRead}
+use Rattle.entry.specs.Inverse.{ReadsWritten, WritesRead}
 use Rattle.entry.proofs.Booleans.{both}
 use Rattle.entry.proofs.Shapes.{shaped}
 use Rattle.entry.proofs.Stored.{length-entry}

@@ -1,12 +1,12 @@
 -- A line of text, from its pieces, and how long it can be: each number of 4 bytes has at most ten digits, the account at most five.
 -- Assumes nothing.
-use Prim.Native.Nat.{ℕ, zero, suc, _+_, _*_, _/_, _%_, _^_, _≤_, _<_}
+use Prim.Native.Nat.{ℕ, zero, suc, _+_, _/_, _%_, _^_, _≤_, _<_}
 use native.Mathlib.Nat.{zero-add, pow-suc, div-lt-iff-lt-mul, le-trans}
 use native.Mathlib.Omega.{arith}
-use mathlib.Core.Path.{_≡_, refl, ap, sym, _∙_}
+use mathlib.Core.Path.{_≡_, _∙_}
 use mathlib.Core.Bool.{Bool, true, false, cond}
-use mathlib.Core.List.{List, [], _∷_, _++_, append-assoc}
-use borrow.Author.Tests.{lt-ltb, le-ltb, ltb-true, ltb-false}
+use mathlib.Core.List.{List, [], _∷_, _++_}
+use borrow.Author.Tests.{lt-ltb, le-ltb}
 use lib.Dec.{ltb, lit<, lit≤}
 use lib.ListN.{length, length-append}
 use lib.Seq.{sets}
@@ -48,7 +48,7 @@ digits-length (suc k) (suc places) number h = go (ltb number 10) (digits-length 
     go true h = omega arith
     go false h = rw length-append (omega arith)
 
-name-length : (told : Told) → length (nameOf told) ≤ 8
+pub name-length : (told : Told) → length (nameOf told) ≤ 8
 name-length (Accepted e n) = lit≤ tt
 name-length (Rejected e n) = lit≤ tt
 name-length (Held e n) = lit≤ tt
@@ -56,7 +56,7 @@ name-length Noted = lit≤ tt
 name-length (Applied e n) = lit≤ tt
 name-length (Dropped e) = lit≤ tt
 
-event-length : (e : Event) → length (eventName e) ≤ 8
+pub event-length : (e : Event) → length (eventName e) ≤ 8
 event-length (Open a) = lit≤ tt
 event-length (Withdraw a) = lit≤ tt
 event-length (Deposit a) = lit≤ tt

@@ -1,11 +1,11 @@
 -- The length of a commit's entries and of an abort's, from how many were applied and how many votes followed: entries of one kind have one length.
 -- Assumes nothing.
-use Prim.Native.Nat.{ℕ, _+_, _*_}
+use Prim.Native.Nat.{ℕ, _*_}
 use native.Mathlib.Nat.{mul-zero, mul-suc}
 use native.Mathlib.Omega.{arith}
 use mathlib.Core.Path.{_≡_, refl, sym}
-use mathlib.Core.Bool.{Bool, true, false, _&&_, false≢true}
-use mathlib.Core.List.{List, [], _∷_, _++_}
+use mathlib.Core.Bool.{Bool, true, false, false≢true}
+use mathlib.Core.List.{List, [], _∷_}
 use lib.ListN.{length}
 use Rattle.rule.specs.Lists.{every}
 use Rattle.account.specs.declared.Told.{Told}
@@ -13,7 +13,7 @@ use Rattle.account.specs.declared.Told.the-variants.{Accepted, Rejected, Held, 
 use Rattle.account.specs.declared.Entry.{Entry}
 use Rattle.layout.specs.Fields.{rowOf}
 use Rattle.entry.specs.Bytes.{entryRows, lengthOfTold, wholesOf}
-use Rattle.entry.specs.Longest.{isApplied, isVote, Sized, CallsSized}
+use Rattle.entry.specs.Longest.{isApplied, isVote, CallsSized}
 use Rattle.entry.proofs.Booleans.{both}
 use Rattle.entry.proofs.Stored.{wholes-append}
 

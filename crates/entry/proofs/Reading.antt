@@ -2,22 +2,19 @@
 -- Assumes nothing.
 use Prim.Native.Nat.{ℕ, _≤_, _<_}
 use native.Mathlib.Omega.{arith}
-use mathlib.Core.Path.{_≡_, refl, ap, sym, _∙_}
-use mathlib.Core.Bool.{Bool, true, false, cond}
-use mathlib.Core.List.{List, [], _∷_}
+use mathlib.Core.Path.{_≡_, refl, sym, _∙_}
+use mathlib.Core.Bool.{true, cond}
+use mathlib.Core.List.{List}
 use mathlib.Core.Option.{Option, none, some}
 use borrow.Author.Tests.{lt-ltb, le-ltb}
 use lib.Dec.{eqb}
 use lib.ListN.{length, getD, drop}
-use Rattle.account.specs.declared.Entry.{Entry}
 use Rattle.layout.specs.Number.{numberAt}
 use Rattle.layout.specs.Fields.{Row, rowOf, wholeOf, thenOf, widthsOf, numbersAt, lastAccount}
-use Rattle.layout.specs.Events.{eventOf}
 use Rattle.layout.proofs.Tables.{present, unknown}
-use Rattle.entry.specs.declared.EntryReading.{EntryReading}
 use Rattle.entry.specs.declared.EntryReading.the-variants.{Found, Nothing}
 use Rattle.entry.specs.Bytes.{entryRows, toldBy, entryOf}
-use Rattle.entry.specs.Answers.{eventFits, thenFits, readKind, readOf, numberAfter, entryAt}
+use Rattle.entry.specs.Answers.{eventFits, thenFits, readKind, readOf, entryAt}
 
 -- the ways on from a row that was found
 short-row : (found : Option Row) (bytes : List ℕ) → length bytes < wholeOf found → readKind found bytes ≡ Nothing

@@ -1,20 +1,22 @@
 -- The refusals of the two writers are those of their definitions, and what they write fits where they do not refuse.
 -- Assumes nothing.
 use Prim.Native.Nat.{ℕ}
-use mathlib.Core.Path.{_≡_, refl}
+use mathlib.Core.Path.{_≡_, refl, ap}
 use mathlib.Core.Bool.{Bool, true, false, cond}
 use mathlib.Core.List.{List}
 use mathlib.Core.Option.{none, some}
 use native.Mathlib.Nat.{le-trans}
+use native.Mathlib.Omega.{arith}
 use borrow.Author.Tests.{ltb-false}
 use lib.Dec.{ltb}
 use lib.ListN.{length}
 use Rattle.layout.specs.Answers.{given, wroteOver, refusedWith}
 use Rattle.layout.proofs.Answers.{wrote-stays, cond-stays}
+use Rattle.entry.specs.declared.EntryReading.the-variants.{Found, Nothing}
 use Rattle.entry.specs.Bytes.{bytesOfEntries, listOf}
-use Rattle.entry.specs.Answers.{longestCall, writeOf}
+use Rattle.entry.specs.Answers.{longestCall, writeOf, Given}
 use Rattle.entry.specs.Text.{lineOf, longestLine, writeLineOf}
-use Rattle.entry.specs.Refusals.{WriterRefuses, WriterStays, LineRefuses, LineStays}
+use Rattle.entry.specs.Refusals.{WriterRefuses, WriterStays, ReadingsApart, LineRefuses, LineStays}
 use Rattle.entry.proofs.Lines.{line-length}
 
 -- a writer that refuses with 4 by a test
@@ -52,3 +54,13 @@ unfolding writeLineOf
 line-stays e account buffer h =
     cond-stays (ltb (length buffer) longestLine) 4 buffer (wroteOver (lineOf account e) buffer)
     (λ b. wrote-stays (lineOf account e) buffer (le-trans (line-length account e h) (ltb-false (length buffer) longestLine b)))
+
+pub readings-apart : ReadingsApart
+readings-apart (Found e a n) (Found f b m) q =
+    let x = ap (λ (g : Given). g .entry) q in
+    let y = ap (λ (g : Given). g .account) q in
+    let z = ap (λ (g : Given). g .length′) q in
+    cc
+readings-apart (Found e a n) Nothing q = let x = ap (λ (g : Given). g .entry) q in let z : _≡_ {A = ℕ} 0 1 = cc in absurd (omega arith)
+readings-apart Nothing (Found e a n) q = let x = ap (λ (g : Given). g .entry) q in let z : _≡_ {A = ℕ} 0 1 = cc in absurd (omega arith)
+readings-apart Nothing Nothing q = refl

@@ -1,9 +1,8 @@
 -- What the table says of each entry, by the six cases of what it tells: the only place where they are gone through for the layout.
 -- Assumes nothing.
-use Prim.Native.Nat.{ℕ, _≤_, _<_, _^_}
+use Prim.Native.Nat.{_<_, _^_}
 use mathlib.Core.Path.{_≡_, refl}
 use mathlib.Core.Bool.{true}
-use mathlib.Core.List.{List}
 use lib.Dec.{lit<}
 use lib.ListN.{length, getD}
 use Rattle.account.specs.declared.Event.{Event}

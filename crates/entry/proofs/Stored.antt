@@ -1,11 +1,11 @@
 -- Entries stored one after the other are one run of stores, as long as their lengths together. By induction on the list of entries;
 -- one entry more is one step of the loops that count and store them.
 -- Assumes nothing.
-use Prim.Native.Nat.{ℕ, suc, _+_, _≤_, _<_, min}
+use Prim.Native.Nat.{ℕ, _+_, _≤_, _<_, min}
 use native.Mathlib.Nat.{add-assoc, zero-add, add-zero}
 use native.Mathlib.Numerals.{add-one}
 use native.Mathlib.Omega.{arith}
-use mathlib.Core.Path.{_≡_, refl, ap, sym, _∙_}
+use mathlib.Core.Path.{_≡_, refl, sym, _∙_}
 use mathlib.Core.Bool.{Bool, true, false}
 use mathlib.Core.List.{List, [], _∷_, _++_, append-nil, append-assoc}
 use borrow.Author.Tests.{leb-true, leb-false}
@@ -13,7 +13,6 @@ use lib.Dec.{leb}
 use lib.ListN.{length, getD, take, length-append}
 use lib.Seq.{sets, take-suc, take-all}
 use Rattle.account.specs.declared.Event.the-variants.{Open}
-use Rattle.account.specs.declared.Told.{Told}
 use Rattle.account.specs.declared.Told.the-variants.{Accepted}
 use Rattle.account.specs.declared.Entry.{Entry}
 use Rattle.layout.specs.Fields.{rowOf, widthsOf, heading, thenOf, written}

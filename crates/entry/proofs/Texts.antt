@@ -1,19 +1,21 @@
 -- Text stored piece by piece: pieces one after the other are one piece, and the digits of a number go by the last of them.
 -- Assumes nothing.
-use Prim.Native.Nat.{ℕ, zero, suc, _+_, _*_, _-_, _/_, _%_, _≤_, _<_}
-use native.Mathlib.Nat.{add-zero, add-assoc}
+use Prim.Native.Nat.{ℕ, zero, suc, _+_, _-_, _/_, _%_, _≤_, _<_}
+use native.Mathlib.Nat.{add-zero}
 use native.Mathlib.Numerals.{add-one}
 use native.Mathlib.Omega.{arith}
-use mathlib.Core.Path.{_≡_, refl, ap, sym, _∙_}
+use mathlib.Core.Path.{_≡_, refl, ap, sym}
 use mathlib.Core.List.{List, [], _∷_, _++_, append-nil, append-assoc}
 use borrow.Author.Tests.{lt-ltb, le-ltb}
 use lib.Dec.{lit<}
-use lib.ListN.{length, getD, take, length-append}
-use lib.Seq.{sets, take-suc, take-length, length-take-le}
+use lib.ListN.{length, getD, take, replicate, length-append}
+use lib.Seq.{sets, take-suc, take-length, length-take-le, take-at}
 use Rattle.layout.specs.Number.{bytesOf}
 use Rattle.layout.proofs.Stores.{sets-more}
 use Rattle.layout.proofs.Numbers.{bytesOf-one}
+use Rattle.entry.specs.declared.words.Word.{Word}
 use Rattle.entry.specs.Text.{decimalIn, spaced, Put}
+use Rattle.entry.specs.Words.{wordOf}
 
 pub put-nothing : (at : ℕ) (l : List ℕ) → Put [] at 0 l at l
 put-nothing at l = record { place = sym (add-zero at); within = omega arith; stored = refl }
@@ -88,3 +90,14 @@ put-field field at m next l l₁ l₂ e p =
 pub put-fields : (xs ys : List (List ℕ)) (at m n next next′ : ℕ) (l l₁ l₂ : List ℕ) → Put (spaced xs) at m l next l₁ → Put (spaced ys) next n l₁ next′ l₂
     → Put (spaced (xs ++ ys)) at (m + n) l next′ l₂
 put-fields xs ys at m n next next′ l l₁ l₂ p q = rw (spaced-append xs ys) (put-append (spaced xs) (spaced ys) at m n next next′ l l₁ l₂ p q)
+
+-- ---- names
+
+-- the letters of a name, without the spaces after it
+pub word-text : (name : List ℕ) → take (wordOf name .length) (wordOf name .letters) ≡ name
+word-text name = take-at name (replicate (8 - length name) 32) (length name) refl
+
+-- a name that was stored as a word
+pub put-name : (word : Word) (name : List ℕ) (at m next : ℕ) (l l₁ : List ℕ) → word ≡ wordOf name → Put (take (word .length) (word .letters)) at m l next l₁
+    → Put name at m l next l₁
+put-name word name at m next l l₁ e p = rw (e, word-text name) at p

@@ -1,7 +1,7 @@
 -- What the writer of a call's entries and the reader of one entry answer (document 01, "Bytes" and "Numbers given when a call is not taken").
 -- Assumes nothing.
 use Prim.Native.Nat.{ℕ}
-use mathlib.Core.Bool.{Bool, true, false, cond, not, _&&_, _||_}
+use mathlib.Core.Bool.{Bool, true, cond, not, _&&_, _||_}
 use mathlib.Core.List.{List, [], _∷_}
 use mathlib.Core.Option.{Option, none, some}
 use lib.Dec.{eqb, leb, ltb}
@@ -26,6 +26,16 @@ writeOf entries account buffer =
     let bytes = bytesOfEntries account (listOf entries) in
     cond (ltb (length buffer) longestCall) (refusedWith 4 buffer)
     (cond (ltb (length buffer) (length bytes)) (refusedWith 4 buffer) (wroteOver bytes buffer))
+
+-- what the reader of an entry gives, by the cases of its answer: the entry, its account and its length, which is 0 where there is no entry
+pub record Given : Type 0 where
+  pub entry : Option Entry
+  pub account : ℕ
+  pub length′ : ℕ
+
+abbrev pub given : EntryReading → Given
+given (Found e account whole) = record { entry = some e; account = account; length′ = whole }
+given Nothing = record { entry = none; account = 0; length′ = 0 }
 
 -- an event kind 1 to 4, and "The amount of Close is 0"
 abbrev pub eventFits : (kind amount : ℕ) → Bool

@@ -8,7 +8,9 @@ use lib.ListN.{length}
 use Rattle.account.specs.declared.Entry.{Entry}
 use Rattle.account.specs.declared.Entries.{Entries}
 use Rattle.layout.specs.Answers.{given, test, firstOf, Stays}
+use Rattle.entry.specs.declared.EntryReading.{EntryReading}
 use Rattle.entry.specs.Bytes.{bytesOfEntries, listOf}
+use Rattle.entry.specs.Answers as Answers′
 use Rattle.entry.specs.Answers.{longestCall, writeOf}
 use Rattle.entry.specs.Text.{longestLine, writeLineOf}
 
@@ -21,6 +23,10 @@ WriterRefuses =
 
 abbrev pub WriterStays : Type 0
 WriterStays = (entries : Entries) (account : ℕ) (buffer : List ℕ) → Stays buffer (writeOf entries account buffer)
+
+-- what is said of the reader's answer tells the answers apart
+abbrev pub ReadingsApart : Type 0
+ReadingsApart = (r s : EntryReading) → Answers′.given r ≡ Answers′.given s → r ≡ s
 
 -- a line is refused exactly if the buffer is too short for the longest
 abbrev pub LineRefuses : Type 0

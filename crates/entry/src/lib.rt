@@ -2,6 +2,7 @@
 mod kinds;
 mod line;
 mod reader;
+mod words;
 mod writer;
 
 use account::Entry;

@@ -2,9 +2,11 @@
 ghost use mathlib.Core.List.{[], _∷_};
 ghost use mathlib.Core.Path.{_≡_};
 ghost use Prim.Native.Nat.{_+_, _≤_, _<_};
-ghost use lib.ListN.{length};
+ghost use lib.ListN.{length, take};
 ghost use Rattle.layout.specs.Events.{amountOf};
-ghost use Rattle.entry.specs.Text.{decimalIn, decimal, nameOf, eventName, thenFields, spaced, writeLineOf, Put};
+ghost use Rattle.entry.specs.Text.{decimalIn, decimal, eventName, thenFields, spaced, writeLineOf, Put};
+use crate::words;
+use crate::words::Word;
 use account::Entry;
 use account::Event;
 use account::Told;
@@ -18,25 +20,11 @@ pub fn write_line(entry: Entry, account: u16, buffer: &mut [u8]) -> Writing
         return Writing::Refused(4);
     }
     let told = entry.told;
-    let named = put_name(buffer, told);
+    let named = put_word(buffer, 0, words::name(told));
     let headed = put_heading(buffer, named, entry.transaction, account, entry.second);
     let end = put_then(buffer, headed, told);
     layout::put1(buffer, end, b'\n');
     Writing::Written(end + 1)
-}
-
-// Stores an entry's name from the beginning of the buffer.
-fn put_name(buffer: &mut [u8], told: Told) -> usize
-    ensures { λ r. ⌜ Put (nameOf told) 0 8 (now (buffer .entry)) r (now (buffer .exit)) ⌝ }
-{
-    match told {
-        Told::Accepted(_, _) => put_word(buffer, 0, b"accepted"),
-        Told::Rejected(_, _) => put_word(buffer, 0, b"rejected"),
-        Told::Held(_, _) => put_word(buffer, 0, b"held"),
-        Told::Noted => put_word(buffer, 0, b"noted"),
-        Told::Applied(_, _) => put_word(buffer, 0, b"applied"),
-        Told::Dropped(_) => put_word(buffer, 0, b"dropped"),
-    }
 }
 
 // Stores transaction, account and second from `at` on.
@@ -79,21 +67,8 @@ fn put_event(buffer: &mut [u8], at: usize, event: Event) -> usize
     ensures { λ r. ⌜ Put (spaced (eventName event ∷ decimal (amountOf event) ∷ [])) at 20 (now (buffer .entry)) r (now (buffer .exit)) ⌝ }
 {
     layout::put1(buffer, at, b' ');
-    let next = put_event_name(buffer, at + 1, event);
+    let next = put_word(buffer, at + 1, words::event_name(event));
     put_number(buffer, next, layout::event_amount(event))
-}
-
-// Stores an event's name from `at` on.
-fn put_event_name(buffer: &mut [u8], at: usize, event: Event) -> usize
-    requires { ⌜ at ≤ 300 ⌝ }
-    ensures { λ r. ⌜ Put (eventName event) at 8 (now (buffer .entry)) r (now (buffer .exit)) ⌝ }
-{
-    match event {
-        Event::Open(_) => put_word(buffer, at, b"open"),
-        Event::Withdraw(_) => put_word(buffer, at, b"withdraw"),
-        Event::Deposit(_) => put_word(buffer, at, b"deposit"),
-        Event::Close => put_word(buffer, at, b"close"),
-    }
 }
 
 // Stores a space and a number from `at` on.
@@ -130,14 +105,24 @@ fn digit(number: u32) -> u8
     b'0' + number as u8
 }
 
-// Stores a word from `at` on.
-fn put_word(buffer: &mut [u8], at: usize, word: &[u8]) -> usize
-    requires { ⌜ (at ≤ 300) × (length (now word) ≤ 8) ⌝ }
-    ensures { λ r. ⌜ Put (now (word .entry)) at 8 (now (buffer .entry)) r (now (buffer .exit)) ⌝ }
+// Stores a name from `at` on.
+fn put_word(buffer: &mut [u8], at: usize, word: Word) -> usize
+    requires { ⌜ (at ≤ 300) × (word .length ≤ 8) ⌝ }
+    ensures { λ r. ⌜ Put (take (word .length) (word .letters)) at 8 (now (buffer .entry)) r (now (buffer .exit)) ⌝ }
+{
+    let length = word.length;
+    let letters = word.letters;
+    put_letters(buffer, at, &letters[0..length])
+}
+
+// Stores letters from `at` on.
+fn put_letters(buffer: &mut [u8], at: usize, letters: &[u8]) -> usize
+    requires { ⌜ (at ≤ 300) × (length (now letters) ≤ 8) ⌝ }
+    ensures { λ r. ⌜ Put (now (letters .entry)) at 8 (now (buffer .entry)) r (now (buffer .exit)) ⌝ }
 {
     let mut i: usize = 0;
-    while i < word.len() {
-        layout::put1(buffer, at + i, word[i]);
+    while i < letters.len() {
+        layout::put1(buffer, at + i, letters[i]);
         i += 1;
     }
     at + i

@@ -1,6 +1,6 @@
 -- An event is its kind and its amount, and a kind 1 to 4 with an amount that is 0 for Close is an event's.
 -- Assumes nothing.
-use Prim.Native.Nat.{ℕ, _≤_, _<_, _^_}
+use Prim.Native.Nat.{_<_, _^_}
 use mathlib.Core.Path.{_≡_, refl}
 use lib.Dec.{lit<}
 use Rattle.account.specs.declared.Event.{Event}

@@ -3,27 +3,25 @@
 -- Assumes nothing.
 use Prim.Native.Nat.{ℕ, _+_, _≤_, _<_, _^_}
 use native.Mathlib.Omega.{arith}
-use mathlib.Core.Path.{_≡_, refl, ap, sym, subst, _∙_}
+use mathlib.Core.Path.{_≡_, refl, ap, sym, _∙_}
 use mathlib.Core.Bool.{Bool, true, false, cond}
-use mathlib.Core.List.{List, [], _∷_, _++_}
+use mathlib.Core.List.{List, [], _++_}
 use mathlib.Core.Option.{Option, none, some}
-use borrow.Author.Tests.{ltb-false, eqb-false}
+use borrow.Author.Tests.{ltb-false}
 use lib.Dec.{eqb, ltb, lit<}
-use lib.ListN.{length, getD, take, drop, length-append}
-use Rattle.account.specs.declared.Event.the-variants.{Open, Withdraw, Deposit, Close}
+use lib.ListN.{length, getD, take, length-append}
 use Rattle.layout.specs.Number.{numberAt, AreBytes}
-use Rattle.layout.specs.Fields.{Row, rowOf, wholeOf, thenOf, widthsOf, numbersAt, written, total, lastAccount}
+use Rattle.layout.specs.Fields.{Row, rowOf, wholeOf, thenOf, widthsOf, numbersAt, total, lastAccount}
 use Rattle.layout.specs.Events.{eventOf}
 use Rattle.layout.proofs.Numbers.{numberAt-fits}
 use Rattle.layout.proofs.Fields.{Fit, fit-heading, numbersAt-written, written-numbersAt}
-use Rattle.layout.proofs.Tables.{Each, present, unknown}
+use Rattle.layout.proofs.Tables.{present, unknown}
 use Rattle.message.specs.declared.Message.{Message}
-use Rattle.message.specs.declared.Message.the-variants.{Request, Commit, Abort}
 use Rattle.message.specs.declared.Reading.{Reading}
 use Rattle.message.specs.declared.Reading.the-variants as Reading′
 use Rattle.message.specs.Bytes.{messages, kindOf, headingOf, numbersOf, messageBy, messageOf, bytesOfMessage, lengthOfMessage}
 use Rattle.message.specs.Answers.{readOf, readKind, readNumbers}
-use Rattle.message.specs.Inverse.{Writable, ReadsWritten, Read, WritesRead}
+use Rattle.message.specs.Inverse.{ReadsWritten, WritesRead}
 use Rattle.message.proofs.Shapes.{shaped}
 use Rattle.message.proofs.Reader.{rest, taken-row}
 use Rattle.message.proofs.Writer.{length-message}

@@ -2,11 +2,9 @@
 -- Assumes nothing.
 use Prim.Native.Nat.{ℕ, zero, suc, _≤_, _<_}
 use native.Mathlib.Omega.{arith}
-use mathlib.Core.Path.{_≡_, refl, ap, sym}
-use mathlib.Core.List.{List, []}
-use mathlib.Core.Option.{none}
+use mathlib.Core.Path.{_≡_, refl}
 use Rattle.layout.specs.Fields.{rowOf, wholeOf}
-use Rattle.layout.proofs.Tables.{Each, absent}
+use Rattle.layout.proofs.Tables.{absent}
 use Rattle.message.specs.Bytes.{messages}
 
 pub with-amount : (kind : ℕ) → 1 ≤ kind → kind ≤ 3 → wholeOf (rowOf messages kind) ≡ 15

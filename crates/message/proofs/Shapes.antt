@@ -1,8 +1,7 @@
 -- What the table says of each message, by the message's six cases: the only place where they are gone through for the layout.
 -- Assumes nothing.
-use Prim.Native.Nat.{ℕ, _<_, _^_}
+use Prim.Native.Nat.{_<_, _^_}
 use mathlib.Core.Path.{_≡_, refl}
-use mathlib.Core.List.{List}
 use lib.Dec.{lit<}
 use lib.ListN.{length, getD}
 use Rattle.account.specs.declared.Event.the-variants.{Open, Withdraw, Deposit, Close}

@@ -3,7 +3,7 @@
 -- Assumes nothing.
 use Prim.Native.Nat.{ℕ, _≤_, _<_}
 use native.Mathlib.Omega.{arith}
-use mathlib.Core.Path.{_≡_, refl, ap, sym, _∙_}
+use mathlib.Core.Path.{_≡_, refl, _∙_}
 use mathlib.Core.List.{List, [], _∷_, _++_}
 use borrow.Author.Tests.{lt-ltb, le-ltb}
 use lib.ListN.{length}
@@ -11,11 +11,10 @@ use lib.Seq.{sets}
 use Rattle.account.specs.declared.Event.the-variants.{Open, Withdraw, Deposit, Close}
 use Rattle.layout.specs.declared.Writing.the-variants as Writing′
 use Rattle.layout.specs.Number.{bytesOf}
-use Rattle.layout.specs.Fields.{rowOf, wholeOf, widthsOf, written, heading, lastAccount}
-use Rattle.layout.specs.Answers.{Wrote, wroteOver, refusedWith, laidOver}
+use Rattle.layout.specs.Fields.{rowOf, widthsOf, written, heading, lastAccount}
+use Rattle.layout.specs.Answers.{wroteOver, refusedWith}
 use Rattle.layout.proofs.Stores.{laid-over}
 use Rattle.layout.proofs.Fields.{length-written, sets-one}
-use Rattle.message.specs.declared.Heading.{Heading}
 use Rattle.message.specs.declared.Message.{Message}
 use Rattle.message.specs.declared.Message.the-variants.{Request, Commit, Abort}
 use Rattle.message.specs.Bytes.{messages, kindOf, headingOf, amountIn, numbersOf, bytesOfMessage, lengthOfMessage}

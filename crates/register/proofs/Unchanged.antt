@@ -1,7 +1,7 @@
 -- Demand 1 on a call: by cases on what was read, on the buffer's length and on the named account's answer.
 -- Assumes nothing.
 use Prim.Native.Nat.{ℕ, _<_, _≤_}
-use mathlib.Core.Path.{_≡_, refl, sym, _∙_, ap}
+use mathlib.Core.Path.{_≡_, refl, sym, _∙_, ap, ap₂}
 use mathlib.Core.Logic.{_↔_}
 use mathlib.Core.Bool.{Bool, true, false, cond, true≢false, false≢true}
 use mathlib.Core.List.{List}
@@ -28,7 +28,7 @@ use Rattle.register.specs.declared.Answer.{Answer}
 use Rattle.register.specs.declared.Answer.the-variants.{Refused, Taken}
 use Rattle.register.specs.Register.{nowhere, accountAt, withAccount, ruleMessage, stepBy}
 use Rattle.register.specs.Call.{Result, refusedWith, afterStep, afterMessage, afterReading, callOf}
-use Rattle.register.specs.Unchanged.{Refusal, Taking, Why, reading, room, disorder as out-of-order, step, Checked}
+use Rattle.register.specs.Unchanged.{Refusal, Taking, Why, reading, room, disorder as out-of-order, step, Checked, AnswersApart}
 
 module _ (r : Register) (bytes buffer : List ℕ) where
   -- a result that is a refusal is the refusal
@@ -174,3 +174,9 @@ module _ (r : Register) (bytes buffer : List ℕ) where
   -- every call keeps demand 1
   pub checked : Checked r bytes buffer
   checked = record { refused = refusal; taken = taking; exactly = λ n. (why n, given n) }
+
+pub answers-apart : AnswersApart
+answers-apart (Refused n) (Refused k) h c w = ap Refused (let z : n ≡ k = cc in z)
+answers-apart (Refused n) (Taken consumed written) h c w = let z : _≡_ {A = ℕ} 0 1 = cc in absurd (omega arith)
+answers-apart (Taken consumed written) (Refused k) h c w = let z : _≡_ {A = ℕ} 0 1 = cc in absurd (omega arith)
+answers-apart (Taken consumed written) (Taken consumed′ written′) h c w = ap₂ Taken c w

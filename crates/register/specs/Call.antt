@@ -4,6 +4,7 @@ use Prim.Native.Nat.{ℕ}
 use mathlib.Core.Path.{_≡_}
 use mathlib.Core.Bool.{cond}
 use mathlib.Core.List.{List, [], _∷_}
+use mathlib.Core.Option.{Option, none, some}
 use lib.Dec.{ltb}
 use lib.ListN.{length}
 use Rattle.account.specs.declared.Account.{Account}
@@ -24,10 +25,10 @@ use Rattle.register.specs.declared.Called.{Called}
 use Rattle.register.specs.declared.Answer.the-variants.{Refused, Taken}
 use Rattle.register.specs.Register.{accountAt, withAccount, stepBy}
 
--- the number of a call's refusal, which is that of document 01's list; 0 says that it was taken
-abbrev pub numberOf : Answer → ℕ
-numberOf (Refused n) = n
-numberOf (Taken consumed written) = 0
+-- what document 01 says of a call's answer: the number of its refusal, if it is one
+abbrev pub refusalOf : Answer → Option ℕ
+refusalOf (Refused n) = some n
+refusalOf (Taken consumed written) = none
 
 -- "A call that is taken gives the consumed length and the length written"; a refusal "returns its number and consumed length 0" and writes nothing
 abbrev pub consumedOf : Answer → ℕ

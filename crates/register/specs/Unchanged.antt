@@ -17,9 +17,10 @@ use Rattle.message.specs.Bytes.{headingOf}
 use Rattle.message.specs.Answers.{readOf}
 use Rattle.entry.specs.Answers.{longestCall}
 use Rattle.register.specs.declared.Register.{Register}
+use Rattle.register.specs.declared.Answer.{Answer}
 use Rattle.register.specs.declared.Answer.the-variants.{Refused, Taken}
 use Rattle.register.specs.Register.{accountAt, ruleMessage}
-use Rattle.register.specs.Call.{callOf, consumedOf, writtenOf}
+use Rattle.register.specs.Call.{callOf, refusalOf, consumedOf, writtenOf}
 
 module _ (r : Register) (bytes buffer : List ℕ) where
   -- "A refusal gives its number from the list, consumes nothing, and leaves the register and the entry buffer unchanged"
@@ -50,3 +51,7 @@ module _ (r : Register) (bytes buffer : List ℕ) where
     pub refused : (n : ℕ) → callOf r bytes buffer .answer ≡ Refused n → Refusal n
     pub taken : (consumed written : ℕ) → callOf r bytes buffer .answer ≡ Taken consumed written → Taking consumed written
     pub exactly : (n : ℕ) → (callOf r bytes buffer .answer ≡ Refused n) ↔ Why n
+
+-- what is said of an answer tells the answers apart
+abbrev pub AnswersApart : Type 0
+AnswersApart = (x y : Answer) → refusalOf x ≡ refusalOf y → consumedOf x ≡ consumedOf y → writtenOf x ≡ writtenOf y → x ≡ y

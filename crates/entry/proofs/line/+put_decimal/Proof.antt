@@ -67,7 +67,8 @@ put-decimal-add-result : (t : ℕ) → put-decimal-lts.Need-add-result (
   put-decimal.Post,
 ) (put-decimal-at t) put-decimal.Post
 put-decimal-add-result t c =
-    let start = c .before .before .before .before .before .before .before .before in
+    let at-before = c .before .before .before .before .before .before .before in
+    let start = at-before .before in
     omega (arith, start .pre .1 .0)
 
 put-decimal-same-length : (t : ℕ) → put-decimal-lts.Need-same-length (
@@ -151,7 +152,8 @@ put-decimal-add-result-2 : (t : ℕ) → put-decimal-lts.Need-add-result-2 (
   put-decimal.Post,
 ) (put-decimal-at t) put-decimal.Post
 put-decimal-add-result-2 t c =
-    let at-put-decimal = c .before .before .before .before .before .before .before in
+    let at-before = c .before .before .before .before .before .before in
+    let at-put-decimal = at-before .before in
     let start = at-put-decimal .before .before .before .before .before in
     omega (arith, at-put-decimal .put-decimal .ensures .within, start .pre .1 .0, start .pre .1 .1)
 

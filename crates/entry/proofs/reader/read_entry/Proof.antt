@@ -59,9 +59,8 @@ returns-4 c =
     let at-kind-length = at-if1 .before in
     let at-number1 = at-kind-length .before in
     let start = at-number1 .before .before in
-    let e =
-    read-fitting (start .args .bytes .now) (at-number1 .number1 .result) (at-kind-length .kind-length .result) (at-number1 .number1 .ensures) (at-kind-length .kind-length .ensures .0)
-    (at-if1 .if1 .left) (at-if2 .if2 .left) (omega (arith, at-number2 .number2 .ensures, at-if3 .if3 .left)) in
+    let fitting = read-fitting (start .args .bytes .now) (at-number1 .number1 .result) (at-kind-length .kind-length .result) (at-number1 .number1 .ensures) (at-kind-length .kind-length .ensures .0) in
+    let e = fitting (at-if1 .if1 .left) (at-if2 .if2 .left) (omega (arith, at-number2 .number2 .ensures, at-if3 .if3 .left)) in
     rw (c .entry-at .ensures, at-number2 .number2 .ensures) (sym (e ∙ rw (← at-then-fits .then-fits .ensures, at-if4 .if4 .taken)))
 
 returns-5 : tie.Need-returns-5
@@ -74,9 +73,8 @@ returns-5 c =
     let at-kind-length = at-if1 .before in
     let at-number1 = at-kind-length .before in
     let start = at-number1 .before .before in
-    let e =
-    read-fitting (start .args .bytes .now) (at-number1 .number1 .result) (at-kind-length .kind-length .result) (at-number1 .number1 .ensures) (at-kind-length .kind-length .ensures .0)
-    (at-if1 .if1 .left) (at-if2 .if2 .left) (omega (arith, at-number2 .number2 .ensures, at-if3 .if3 .left)) in
+    let fitting = read-fitting (start .args .bytes .now) (at-number1 .number1 .result) (at-kind-length .kind-length .result) (at-number1 .number1 .ensures) (at-kind-length .kind-length .ensures .0) in
+    let e = fitting (at-if1 .if1 .left) (at-if2 .if2 .left) (omega (arith, at-number2 .number2 .ensures, at-if3 .if3 .left)) in
     sym (e ∙ rw (← at-then-fits .then-fits .ensures, c .if4 .left))
 
 pub read-entry-spec : {M : Type 1} → statement M
