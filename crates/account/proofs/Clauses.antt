@@ -7,7 +7,7 @@ use mathlib.Core.List.{List, [], _∷_, _++_}
 use native.Mathlib.Omega.{arith}
 use lib.Dec.{leb, eqb}
 use lib.ListN.{length, getD}
-use borrow.Author.Tests.{le-leb, lt-leb, leb-true}
+use borrow.Author.Tests.{le-leb, leb-true}
 use Rattle.rule.specs.Lists.{every, some-of}
 use Rattle.rule.specs.Rule as rule
 use Rattle.rule.specs.Outcome.{outcomes}
@@ -110,12 +110,17 @@ accept-every false true = refl
 accept-every false false = refl
 
 module _ (w : Weighing) (e : Event) (s : State) (xs : List RuleSlot) (decided : weighingOf w ≡ decide panel e s xs) where
-  -- a request that finds a free place is accepted exactly if its guard holds in every outcome
-  pub accepted : length xs < 8 → isAccept (w .verdict) ≡ every (guardOf e) (outcomes panel xs s)
-  unfolding decide weigh
-  accepted h =
-      let chosen : verdictOf (w .verdict) ≡ decide panel e s xs .verdict = ap (λ v. v .verdict) decided in
-      accept-same (w .verdict) ∙ ap ruleAccept chosen ∙ rw (lt-leb 8 (length xs) h) (accept-every (every (guardOf e) (outcomes panel xs s)) (some-of (guardOf e) (outcomes panel xs s)))
+  -- a request that is accepted finds its guard true in every outcome
+  pub accepted-every : isAccept (w .verdict) ≡ true → every (guardOf e) (outcomes panel xs s) ≡ true
+  unfolding decide weigh ruleAccept
+  accepted-every h = go (leb 8 (length xs)) refl
+    where
+      chosen : ruleAccept (decide panel e s xs .verdict) ≡ true
+      chosen = ap (λ v. ruleAccept (v .verdict)) (sym decided) ∙ sym (accept-same (w .verdict)) ∙ h
+
+      go : (b : Bool) → leb 8 (length xs) ≡ b → every (guardOf e) (outcomes panel xs s) ≡ true
+      go true k = absurd (false≢true (rw k at chosen))
+      go false k = sym (accept-every (every (guardOf e) (outcomes panel xs s)) (some-of (guardOf e) (outcomes panel xs s))) ∙ (rw k at chosen)
 
   hold-same : (v : Verdict) → isHold v ≡ rule-order.staysHeld (verdictOf v)
   hold-same Accept = refl
@@ -143,14 +148,23 @@ module _ (s : State) (n : ℕ) (places : List Slot) (at : ℕ) (d : Slot) (more 
   pub guarded-stop : every (guardOf (x .event)) (outcomes panel before s) ≡ false → false ≡ rule-order.guarded panel s before (usedFrom at n places)
   guarded-stop h = rw (step, h)
 
--- the clauses together
+-- the clauses together; the last is asked where the events in progress find their guards
 pub order-lists : (s : State) (xs ys : List RuleSlot) → length xs ≤ 8 → length ys ≤ 8
+    → (last : Bool) → (rule-order.guarded panel s [] xs ≡ true → last ≡ rule-order.oldestStaysHeld panel s xs ys)
     → (stateFits s && (apartBeside xs ys && apartBeside ys []) && every rule-order.withoutDecision ys && rule-order.guarded panel s [] xs
     && rule-order.oldestUndecided xs
-    && rule-order.oldestStaysHeld panel s xs ys)
+    && last)
     ≡ rule-order.order panel (listed s xs ys)
 unfolding rule-order.order
-order-lists s xs ys h k = rw (apart-alone ys, ← apart-both xs ys, le-leb (length xs) 8 h, le-leb (length ys) 8 k)
+order-lists s xs ys h k last f =
+    rw (apart-alone ys, ← apart-both xs ys, le-leb (length xs) 8 h, le-leb (length ys) 8 k)
+    (go (stateFits s && rule-order.apart (xs ++ ys) && every rule-order.withoutDecision ys) (rule-order.guarded panel s [] xs) (rule-order.oldestUndecided xs) f)
+  where
+    go : (before guards oldest : Bool) → (guards ≡ true → last ≡ rule-order.oldestStaysHeld panel s xs ys)
+        → (before && guards && oldest && last) ≡ (before && guards && oldest && rule-order.oldestStaysHeld panel s xs ys)
+    go before true oldest f′ = ap (λ (b : Bool). before && true && oldest && b) (f′ refl)
+    go true false oldest f′ = refl
+    go false false oldest f′ = refl
 
 -- an account in order has its counts within limits
 pub order-counts : (a : Account) → orderOf a ≡ true → (a .progressing ≤ 8) × (a .holding ≤ 8)

@@ -2,13 +2,16 @@ pub mod Panel
 pub mod Cases
 pub mod Guards
 pub mod Slices
-pub mod Votes
+pub mod Ends
+pub mod Span
+pub mod Decided
 pub mod Clauses
 pub mod Walks
 pub mod Padded
 pub mod Rows
 pub mod Taken
 pub mod Ordered
+pub mod Guarded
 pub mod Sought
 pub mod Refusals
 pub mod Refused

@@ -79,6 +79,15 @@ account-lists a p q few fewHeld blanks blanksHeld = λ i.
       holding = sym (count-used (a .held) (a .holding) (omega arith)) i;
     }
 
+-- the rule's clauses
+pub order-rule : (a : Account) → orderOf a ≡ true → rule.order panel (listsOf a) ≡ true
+unfolding orderOf
+order-rule a h =
+    and-right
+    (leb (a .progressing) room && leb (a .holding) bench && every isBlank (drop (a .progressing) (a .progress)) && every isBlank (drop (a .holding) (a .held)))
+    (rule.order panel (listsOf a))
+    h
+
 -- what order says of an account's places and transactions
 pub record Ordered (a : Account) : Type 0 where
   pub progressing : a .progressing ≤ room
@@ -102,5 +111,5 @@ ordered a p q h =
       progressing = few;
       holding = fewHeld;
       lists = account-lists a p q few fewHeld (and-right (c1 && c2) c3 h3) (and-right (c1 && c2 && c3) c4 h4);
-      transactions = order-clauses panel (listsOf a) (and-right (c1 && c2 && c3 && c4) (rule.order panel (listsOf a)) h) .transactions;
+      transactions = order-clauses panel (listsOf a) (order-rule a h) .transactions;
     }

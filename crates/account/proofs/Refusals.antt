@@ -11,6 +11,7 @@ use Rattle.rule.specs.Lists.{some-of}
 use Rattle.rule.specs.Rule as rule
 use Rattle.rule.specs.Step.{named, mark, without, dropping, after, settle, asked, committing, aborting, step}
 use Rattle.rule.specs.Call.{namedCommitted, refusal, call}
+use Rattle.rule.specs.Order.{guarded}
 use Rattle.account.specs.declared.Event.{Event}
 use Rattle.account.specs.declared.Account.{Account}
 use Rattle.account.specs.declared.places.Row.{Row}
@@ -22,6 +23,7 @@ use Rattle.account.specs.Steps.{refusedBy, stepOf}
 use Rattle.account.specs.Rows.{listOf, rowOf}
 use Rattle.account.specs.Taken.{takenAs, Seeks}
 use Rattle.account.proofs.Rows.{row-list, row-count}
+use Rattle.account.proofs.Guarded.{marked-guarded, without-guarded}
 
 -- a step by its refusal
 module _ (a : Account) (m : rule.Message ℕ Event) where
@@ -83,12 +85,25 @@ module _ (a : Account) (t : ℕ) (s : Sought) (seeks : Seeks a t s) (ok : orderO
   abort-taken h l = taken-step a (rule.abort t g) ok (rw (sought true h, marked false l))
 
   -- what settling the marked rows, or the rows without the transaction, gives is the rule's
+  marked-list : (made : Row) → made ≡ rowOf (mark t (listOf (s .progress))) → listOf made ≡ mark t (listsOf a .progress)
+  marked-list made e = row-list made (mark t (listOf (s .progress))) e ∙ ap (mark t) (row-list (s .progress) (listsOf a .progress) (seeks .progress))
+
+  without-list : (made : Row) → made ≡ rowOf (without t (listOf (s .progress))) → listOf made ≡ without t (listsOf a .progress)
+  without-list made e = row-list made (without t (listOf (s .progress))) e ∙ ap (without t) (row-list (s .progress) (listsOf a .progress) (seeks .progress))
+
+  -- each event in progress still finds its guard
+  pub committed-guarded : (made : Row) → made ≡ rowOf (mark t (listOf (s .progress))) → guarded panel (a .state) [] (listOf made) ≡ true
+  committed-guarded made e = rw (marked-list made e) (marked-guarded a ok t)
+
+  pub aborted-guarded : s .committed ≡ false → (made : Row) → made ≡ rowOf (without t (listOf (s .progress))) → guarded panel (a .state) [] (listOf made) ≡ true
+  aborted-guarded l made e = rw (without-list made e) (without-guarded a ok t (marked false l))
+
   pub committed-rows : (made : Row) → made ≡ rowOf (mark t (listOf (s .progress)))
       → takenAs (after (rule.noted t g ∷ []) (settle panel (a .state) (listOf made) (listOf (s .held)))) ≡ takenAs (committing panel (listsOf a) t g)
   unfolding committing listsOf
   committed-rows made e =
       ap₂ (λ (ps hs : List RuleSlot). takenAs (after (rule.noted t g ∷ []) (settle panel (a .state) ps hs)))
-      (row-list made (mark t (listOf (s .progress))) e ∙ ap (mark t) (row-list (s .progress) (listsOf a .progress) (seeks .progress)))
+      (marked-list made e)
       (row-list (s .held) (listsOf a .held) (seeks .held))
 
   pub aborted-rows : (made kept : Row) → made ≡ rowOf (without t (listOf (s .progress))) → kept ≡ rowOf (without t (listOf (s .held))) → s .named ≡ true
@@ -96,7 +111,7 @@ module _ (a : Account) (t : ℕ) (s : Sought) (seeks : Seeks a t s) (ok : orderO
   unfolding aborting listsOf
   aborted-rows made kept e f h =
       ap₂ (λ (ps hs : List RuleSlot). takenAs (after (dropping (slotOf (s .slot)) ∷ []) (settle panel (a .state) ps hs)))
-      (row-list made (without t (listOf (s .progress))) e ∙ ap (without t) (row-list (s .progress) (listsOf a .progress) (seeks .progress)))
+      (without-list made e)
       (row-list kept (without t (listOf (s .held))) f ∙ ap (without t) (row-list (s .held) (listsOf a .held) (seeks .held)))
       ∙ ap (λ (xs : List RuleSlot). takenAs (after (map dropping xs) (settle panel (a .state) (without t (listsOf a .progress)) (without t (listsOf a .held)))))
       (sym (seeks .slot h))

@@ -75,26 +75,6 @@ module _ (v : Verdict) (ps : List RuleSlot) (x : RuleSlot) where
   pub joined-other : isAccept v ≡ false → ps ≡ joinedBy (verdictOf v) ps x
   joined-other h = sym (accept-false v h ps x)
 
--- what is accepted found a free place
-not-held : (v : Verdict) → isAccept v ≡ true → verdictOf v ≡ rule.hold → ⊥
-not-held v a h = false≢true (ap staysHeld (sym (accept-true v a) ∙ h))
-
-module _ (w : Weighing) (e : Event) (s : State) where
-  pub accepted-free : (xs : List RuleSlot) → weighingOf w ≡ decide panel e s xs → isAccept (w .verdict) ≡ true → length xs < 8
-  unfolding decide
-  accepted-free xs h a = go (leb 8 (length xs)) refl
-    where
-      go : (b : Bool) → leb 8 (length xs) ≡ b → length xs < 8
-      go true k = absurd (not-held (w .verdict) a (ap (λ (x : rule-weigh.Weighing). x .verdict) (rw k at h)))
-      go false k = leb-false 8 (length xs) k
-
-  pub accepted-behind : (hs xs : List RuleSlot) → weighingOf w ≡ decideBehind panel hs e s xs → isAccept (w .verdict) ≡ true → length xs < 8
-  accepted-behind [] xs h a = accepted-free xs h a
-  accepted-behind (x ∷ hs) xs h a = absurd (not-held (w .verdict) a (ap (λ (x : rule-weigh.Weighing). x .verdict) h))
-
-  pub accepted-room : (places : List Slot) (n : ℕ) → n ≤ length places → weighingOf w ≡ decide panel e s (used places n) → isAccept (w .verdict) ≡ true → n < 8
-  accepted-room places n h d a = rw (count-used places n h) at (accepted-free (used places n) d a)
-
 -- a request behind those held: it is weighed if there are none, and held with 0 if there are any
 module _ (e : Event) (s : State) (xs : List RuleSlot) where
   pub behind-none : (hs : List RuleSlot) → length hs ≡ 0 → decide panel e s xs ≡ decideBehind panel hs e s xs

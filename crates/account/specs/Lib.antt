@@ -3,6 +3,7 @@ pub mod Places
 pub mod Weighing
 pub mod Order
 pub mod Clauses
+pub mod Ends
 pub mod Steps
 pub mod Reached
 pub mod Rows

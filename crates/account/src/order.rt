@@ -7,7 +7,9 @@ use crate::weighing::Verdict;
 use crate::weighing::decide;
 use crate::weighing::is_opened;
 use crate::weighing::is_undecided;
+use crate::weighing::walk;
 ghost use mathlib.Core.Path.{_≡_};
+ghost use mathlib.Core.Bool.{true};
 ghost use Prim.Native.Nat.{_≤_};
 ghost use lib.ListN.{drop};
 ghost use mathlib.Core.List.{[], map};
@@ -162,19 +164,8 @@ fn guarded(s: State, progress: [Slot; 8], progressing: usize) -> bool
     requires { ⌜ progressing ≤ 8 ⌝ }
     ensures { λ r. ⌜ r ≡ rule.guarded panel s [] (used progress progressing) ⌝ }
 {
-    let mut at = 0;
-    while at < progressing {
-        let place = progress[at];
-        let event = place.event;
-        let weighing = decide(progress, at, s, event);
-        let verdict = weighing.verdict;
-        if is_accept(verdict) {
-            at += 1;
-        } else {
-            return false;
-        }
-    }
-    true
+    let walked = walk(s, progress, progressing);
+    walked.guarded
 }
 
 // Whether the oldest event in progress, if any, is undecided.
@@ -190,7 +181,7 @@ fn oldest_undecided(progress: [Slot; 8], progressing: usize) -> bool
     is_undecided(decision)
 }
 
-// Whether the oldest request held, if any, would stay held.
+// Whether the oldest request held, if any, would stay held; it is asked where the events in progress find their guards.
 fn oldest_stays_held(
     s: State,
     progress: [Slot; 8],
@@ -199,7 +190,7 @@ fn oldest_stays_held(
     holding: usize,
 ) -> bool
     requires { ⌜ (progressing ≤ 8) × (holding ≤ 8) ⌝ }
-    ensures { λ r. ⌜ r ≡ rule.oldestStaysHeld panel s (used progress progressing) (used held holding) ⌝ }
+    ensures { λ r. ⌜ (rule.guarded panel s [] (used progress progressing) ≡ true → r ≡ rule.oldestStaysHeld panel s (used progress progressing) (used held holding)) ⌝ }
 {
     if holding == 0 {
         return true;

@@ -17,16 +17,16 @@ use crate::weighing::decide;
 use crate::weighing::effect;
 ghost use mathlib.Core.Path.{_≡_};
 ghost use mathlib.Core.Bool.{true};
-ghost use mathlib.Core.List.{List};
+ghost use mathlib.Core.List.{List, []};
 ghost use Prim.Native.Nat.{_+_, _-_, _≤_, _<_};
 ghost use lib.ListN.{length};
 ghost use Rattle.rule.specs.Rule.{request, commit, abort};
-ghost use Rattle.rule.specs.Weigh.{decideBehind};
+ghost use Rattle.rule.specs.Order.{guarded};
 ghost use Rattle.rule.specs.Step as rule;
 ghost use Rattle.account.specs.Panel.{panel};
 ghost use Rattle.account.specs.Places.{RuleSlot, slotOf};
 ghost use Rattle.account.specs.Order.{orderOf};
-ghost use Rattle.account.specs.Weighing.{weighingOf};
+ghost use Rattle.account.specs.Ends.{DecidesBehind};
 ghost use Rattle.account.specs.Clauses.{isAccept, listed};
 ghost use Rattle.account.specs.Steps.{RuleEntry, entriesOf, stepOf, refusedBy};
 ghost use Rattle.account.specs.Rows.{listOf, listFrom, rowOf};
@@ -194,7 +194,7 @@ fn ask(
     event: Event,
 ) -> Called
     requires { ⌜ (progress .count ≤ 8) × (held .count < 8) ⌝ }
-    ensures { λ r. ⌜ ((events requests : List RuleSlot) → progress ≡ rowOf events → held ≡ rowOf requests → r ≡ takenAs (rule.asked panel (listed state events requests) transaction second event)) ⌝ }
+    ensures { λ r. ⌜ ((events requests : List RuleSlot) → progress ≡ rowOf events → held ≡ rowOf requests → guarded panel state [] events ≡ true → r ≡ takenAs (rule.asked panel (listed state events requests) transaction second event)) ⌝ }
 {
     let decision = Decision::Undecided;
     let slot = Slot {
@@ -215,7 +215,7 @@ fn ask(
 // The decision on a request behind those held: held with 0 if there are any.
 fn decide_behind(holding: usize, progress: Row, state: State, event: Event) -> Weighing
     requires { ⌜ progress .count ≤ 8 ⌝ }
-    ensures { λ r. ⌜ ((requests : List RuleSlot) → holding ≡ length requests → weighingOf r ≡ decideBehind panel requests event state (listOf progress)) ⌝ }
+    ensures { λ r. ⌜ ((requests : List RuleSlot) → holding ≡ length requests → DecidesBehind requests event state (listOf progress) r) ⌝ }
 {
     let slots = progress.slots;
     if holding == 0 {
@@ -231,7 +231,7 @@ fn decide_behind(holding: usize, progress: Row, state: State, event: Event) -> W
 // What follows every commit and abort, from the place `first` in progress on: the committed oldest are applied, then the requests held are looked at.
 fn settle(state: State, progress: Row, first: usize, held: Row, entries: Entries) -> Called
     requires { ⌜ (first ≤ progress .count) × (progress .count ≤ 8) × (held .count ≤ 8) × (entries .count + (progress .count - first) + held .count ≤ 17) ⌝ }
-    ensures { λ r. ⌜ ((written : List RuleEntry) → entries ≡ entriesOf written → r ≡ takenAs (rule.after written (rule.settle panel state (listFrom first progress) (listOf held)))) ⌝ }
+    ensures { λ r. ⌜ ((written : List RuleEntry) → entries ≡ entriesOf written → guarded panel state [] (listFrom first progress) ≡ true → r ≡ takenAs (rule.after written (rule.settle panel state (listFrom first progress) (listOf held)))) ⌝ }
 {
     if progress.settled(first) {
         return drain(state, progress.after(first), held, 0, entries);
@@ -247,7 +247,7 @@ fn settle(state: State, progress: Row, first: usize, held: Row, entries: Entries
 // The requests held are weighed, from the place `first` on, until one stays held.
 fn drain(state: State, progress: Row, held: Row, first: usize, entries: Entries) -> Called
     requires { ⌜ (first ≤ held .count) × (progress .count ≤ 8) × (held .count ≤ 8) × (entries .count + (held .count - first) ≤ 17) ⌝ }
-    ensures { λ r. ⌜ ((events : List RuleSlot) (written : List RuleEntry) → progress ≡ rowOf events → entries ≡ entriesOf written → r ≡ takenAs (rule.after written (rule.drain panel state events (listFrom first held)))) ⌝ }
+    ensures { λ r. ⌜ ((events : List RuleSlot) (written : List RuleEntry) → progress ≡ rowOf events → entries ≡ entriesOf written → guarded panel state [] events ≡ true → r ≡ takenAs (rule.after written (rule.drain panel state events (listFrom first held)))) ⌝ }
 {
     if first == held.count {
         return taken(state, progress, held.after(first), entries);

@@ -8,14 +8,11 @@ use crate::State;
 ghost use mathlib.Core.Path.{_≡_};
 ghost use mathlib.Core.Bool.{true};
 ghost use Prim.Native.Nat.{_≤_};
-ghost use mathlib.Core.List.{map};
-ghost use lib.Seq.{slice};
-ghost use Rattle.rule.specs.Outcome.{outcomes};
-ghost use Rattle.rule.specs.Weigh as rule;
-ghost use Rattle.account.specs.Panel.{isNew, isOpened, guardOf, tableEffect, effectOf, panel};
-ghost use Rattle.account.specs.Places.{slotOf, used};
+ghost use Rattle.account.specs.Panel.{isNew, isOpened, guardOf, tableEffect, effectOf};
+ghost use Rattle.account.specs.Places.{used};
 ghost use Rattle.account.specs.Order.{isUndecided};
-ghost use Rattle.account.specs.Weighing.{weighingOf, votesIn, verdictBy};
+ghost use Rattle.account.specs.Weighing.{verdictBy};
+ghost use Rattle.account.specs.Ends.{endsOf, everyEnd, someEnd, endsAfter, endsPerhaps, endsWith, Spreads, Decides};
 
 // How a request is decided.
 pub(crate) enum Verdict {
@@ -30,16 +27,122 @@ pub(crate) struct Weighing {
     pub(crate) weighed: u32,
 }
 
-// The number of outcomes, and in how many of them the guard holds.
-struct Votes {
-    weighed: u32,
-    yes: u32,
+// The outcomes of the events in progress by three of them, which answer for all: one with the lowest balance, one with the highest, and one in which the account is opened or closed, if there is such a one; and how many there are.
+pub(crate) struct Ends {
+    pub(crate) lowest: State,
+    pub(crate) highest: State,
+    pub(crate) turned: State,
+    pub(crate) outcomes: u32,
 }
 
-// The decision on a request as if nothing were held: held with 0 where no place is free in progress, else weighed over every outcome.
+// The ends of the outcomes of the events in progress, and whether each event finds its guard true in every outcome of those before it; where one does not, the ends are those before it.
+pub(crate) struct Spread {
+    pub(crate) guarded: bool,
+    pub(crate) ends: Ends,
+}
+
+impl Ends {
+    // The ends of the one outcome of no events.
+    fn of(s: State) -> Ends
+        ensures { λ r. ⌜ r ≡ endsOf s ⌝ }
+    {
+        Ends {
+            lowest: s,
+            highest: s,
+            turned: s,
+            outcomes: 1,
+        }
+    }
+
+    // Whether the guard holds at every end.
+    fn every(self, e: Event) -> bool
+        ensures { λ r. ⌜ r ≡ everyEnd e self ⌝ }
+    {
+        let lowest = self.lowest;
+        let highest = self.highest;
+        let turned = self.turned;
+        guard(e, lowest) & guard(e, highest) & guard(e, turned)
+    }
+
+    // Whether the guard holds at some end.
+    fn some(self, e: Event) -> bool
+        ensures { λ r. ⌜ r ≡ someEnd e self ⌝ }
+    {
+        let lowest = self.lowest;
+        let highest = self.highest;
+        let turned = self.turned;
+        guard(e, lowest) | guard(e, highest) | guard(e, turned)
+    }
+
+    // The ends with one event more in progress, the newest.
+    fn with(self, e: Event, decision: Decision) -> Ends
+        requires { ⌜ self .outcomes ≤ 128 ⌝ }
+        ensures { λ r. ⌜ r ≡ endsWith self e decision ⌝ }
+    {
+        if is_undecided(decision) {
+            self.perhaps(e)
+        } else {
+            self.after(e)
+        }
+    }
+
+    // The ends after an event that is applied in every outcome.
+    fn after(self, e: Event) -> Ends
+        ensures { λ r. ⌜ r ≡ endsAfter self e ⌝ }
+    {
+        let lowest = self.lowest;
+        let highest = self.highest;
+        let turned = self.turned;
+        Ends {
+            lowest: effect(e, lowest),
+            highest: effect(e, highest),
+            turned: effect(e, turned),
+            outcomes: self.outcomes,
+        }
+    }
+
+    // The ends with an event that is applied in one half of the outcomes.
+    fn perhaps(self, e: Event) -> Ends
+        requires { ⌜ self .outcomes ≤ 128 ⌝ }
+        ensures { λ r. ⌜ r ≡ endsPerhaps self e ⌝ }
+    {
+        let lowest = self.lowest;
+        let highest = self.highest;
+        let turned = self.turned;
+        let outcomes = self.outcomes + self.outcomes;
+        match e {
+            Event::Withdraw(_) => Ends {
+                lowest: effect(e, lowest),
+                highest,
+                turned,
+                outcomes,
+            },
+            Event::Deposit(_) => Ends {
+                lowest,
+                highest: effect(e, highest),
+                turned,
+                outcomes,
+            },
+            Event::Open(_) => Ends {
+                lowest,
+                highest,
+                turned: effect(e, turned),
+                outcomes,
+            },
+            Event::Close => Ends {
+                lowest,
+                highest,
+                turned: effect(e, turned),
+                outcomes,
+            },
+        }
+    }
+}
+
+// The decision on a request as if nothing were held: held with 0 where no place is free in progress, else weighed at the ends of the outcomes.
 pub(crate) fn decide(progress: [Slot; 8], progressing: usize, s: State, e: Event) -> Weighing
     requires { ⌜ progressing ≤ 8 ⌝ }
-    ensures { λ r. ⌜ weighingOf r ≡ rule.decide panel e s (used progress progressing) ⌝ }
+    ensures { λ r. ⌜ Decides e s (used progress progressing) r ⌝ }
 {
     if Account::PROGRESS <= progressing {
         return Weighing {
@@ -47,50 +150,52 @@ pub(crate) fn decide(progress: [Slot; 8], progressing: usize, s: State, e: Event
             weighed: 0,
         };
     }
-    let votes = weigh(progress, progressing, 0, s, e);
-    let verdict = verdict_of(votes);
+    let walked = walk(s, progress, progressing);
+    let ends = walked.ends;
+    let verdict = verdict_of(ends.every(e), ends.some(e));
     Weighing {
         verdict,
-        weighed: votes.weighed,
+        weighed: ends.outcomes,
     }
 }
 
-// The verdict by the votes: accepted if the guard holds in every outcome, rejected if in none, held if in some only.
-fn verdict_of(votes: Votes) -> Verdict
-    ensures { λ r. ⌜ r ≡ verdictBy votes ⌝ }
+// The verdict: accepted if the guard holds in every outcome, rejected if in none, held if in some only.
+fn verdict_of(every: bool, some: bool) -> Verdict
+    ensures { λ r. ⌜ r ≡ verdictBy every some ⌝ }
 {
-    if votes.yes == votes.weighed {
+    if every {
         return Verdict::Accept;
     }
-    if votes.yes == 0 {
-        return Verdict::Reject;
+    if some {
+        return Verdict::Hold;
     }
-    Verdict::Hold
+    Verdict::Reject
 }
 
-// The votes of the outcomes of the events in progress from the place `at` on, started from the state `s`.
-fn weigh(progress: [Slot; 8], progressing: usize, at: usize, s: State, e: Event) -> Votes
-    requires { ⌜ (at ≤ progressing) × (progressing ≤ 8) ⌝ }
-    ensures { λ r. ⌜ r ≡ votesIn e (outcomes panel (map slotOf (slice at progressing progress)) s) ⌝ }
+// The ends of the outcomes of the events in progress, an event at a time.
+pub(crate) fn walk(s: State, progress: [Slot; 8], progressing: usize) -> Spread
+    requires { ⌜ progressing ≤ 8 ⌝ }
+    ensures { λ r. ⌜ Spreads s (used progress progressing) r ⌝ }
 {
-    if at == progressing {
-        return Votes {
-            weighed: 1,
-            yes: guard(e, s) as u32,
-        };
-    }
-    let slot = progress[at];
-    let event = slot.event;
-    let decision = slot.decision;
-    let with = weigh(progress, progressing, at + 1, effect(event, s), e);
-    if is_undecided(decision) {
-        let without = weigh(progress, progressing, at + 1, s, e);
-        Votes {
-            weighed: without.weighed + with.weighed,
-            yes: without.yes + with.yes,
+    let mut ends = Ends::of(s);
+    let mut at = 0;
+    while at < progressing {
+        let place = progress[at];
+        let event = place.event;
+        let decision = place.decision;
+        if ends.every(event) {
+            ends = ends.with(event, decision);
+            at += 1;
+        } else {
+            return Spread {
+                guarded: false,
+                ends,
+            };
         }
-    } else {
-        with
+    }
+    Spread {
+        guarded: true,
+        ends,
     }
 }
 

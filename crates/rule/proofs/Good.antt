@@ -24,7 +24,8 @@ use Rattle.rule.specs.Run.{run}
 use Rattle.rule.specs.Demand.{appliedEvents, Owned, AllOwned}
 use Rattle.rule.proofs.Lists.{either, or-left, or-right, or-neither, or-cases, keep-none, keep-others, some-append}
 use Rattle.rule.proofs.Apart.{length-keep, apart-at, apart-snoc, apart-mark, apart-without, apart-less, apart-left, apart-right, apart-other, only-one}
-use Rattle.rule.proofs.Safe.{Safe, safe-mark, safe-without, safe-accept, every-tally}
+use Rattle.rule.proofs.Safe.{Safe, safe-mark, safe-without, safe-accept}
+use Rattle.rule.proofs.Ways.{every-way}
 use Rattle.rule.proofs.Ties.{Wait, no-more, gone, waits, Live, held-then, no-then, dropped-then, going-then, Past, live-then, no-past, dropped-past, applied-past, noting, live-commit, live-drop, live-hold, live-accept, live-reject, past-noting, past-append, past-apply, past-owners, past-undecided, progressLine, heldLine}
 
 module _ {G S E B : Type 0} (R : Rule S E B) where
@@ -81,7 +82,7 @@ module _ {G S E B : Type 0} (R : Rule S E B) where
         let q = decide-accept e s progress v in (
           record {
             past = past-noting R t (ongoing undecided) 0 (λ lines′ l. live-accept t g e undecided l (p .0) (p .1)) (h .past);
-            safe = safe-accept R t g e undecided progress s (h .safe) (every-tally R progress e s (q .1));
+            safe = safe-accept R t g e undecided progress s (h .safe) (every-way R (R .guard e) progress s (q .1));
             transactions = rw (append-assoc progress (slot t g e undecided ∷ []) held) (h .transactions);
             few = rw (length-append progress (slot t g e undecided ∷ [])) (omega (arith, q .0));
             fewHeld = omega (arith, h .fewHeld);

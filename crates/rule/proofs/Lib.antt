@@ -1,5 +1,6 @@
 pub mod Lists
 pub mod Outcomes
+pub mod Ways
 pub mod Exact
 pub mod Safe
 pub mod Ties

@@ -84,6 +84,15 @@ module _ {A : Type 0} (p : A → Bool) where
   keep-others (x ∷ xs) h =
       rw (or-left (p x) (some-of p xs) h) (ap (λ (l : List A). x ∷ l) (keep-others xs (or-right (p x) (some-of p xs) h)))
 
+  -- the test fails of every one exactly if it holds of none
+  pub every-not : (xs : List A) → every (λ (x : A). not (p x)) xs ≡ not (some-of p xs)
+  every-not [] = refl
+  every-not (x ∷ xs) = go (p x) (every-not xs)
+    where
+      go : (b : Bool) → every (λ (x′ : A). not (p x′)) xs ≡ not (some-of p xs) → (not b && every (λ (x′ : A). not (p x′)) xs) ≡ not (b || some-of p xs)
+      go true h = refl
+      go false h = h
+
   -- what holds of none is not every one's, unless there is none
   pub every-some : (x : A) (xs : List A) → every p (x ∷ xs) ≡ true → some-of p (x ∷ xs) ≡ true
   every-some x xs h = rw (and-left (p x) (every p xs) h) refl

@@ -14,16 +14,8 @@ use Rattle.rule.specs.Step.{named, mark, without, settledState, unsettle
 use Rattle.rule.specs.Call.{namedCommitted}
 use Rattle.rule.specs.Order.{guarded}
 use Rattle.rule.proofs.Lists.{and-left, and-right, and-both, or-left, or-right}
-use Rattle.rule.proofs.Outcomes.{tally, total, total-tally, no-of, every-no, no-every}
-
--- a test that holds is no vote of no, and the other way round
-no-zero : (b : Bool) → cond b 0 1 ≡ zero → b ≡ true
-no-zero true h = refl
-no-zero false h = absurd (omega arith)
-
-zero-no : (b : Bool) → b ≡ true → cond b 0 1 ≡ zero
-zero-no true h = refl
-zero-no false h = absurd (false≢true h)
+use Rattle.rule.proofs.Outcomes.{tally, no-of}
+use Rattle.rule.proofs.Ways.{no-zero, zero-no, every-way, way-every}
 
 module _ {G S E B : Type 0} (R : Rule S E B) where
   abbrev pub Safe : List (Slot G E) → S → Type 0
@@ -86,11 +78,7 @@ module _ {G S E B : Type 0} (R : Rule S E B) where
   pub safe-every : (xs : List (Slot G E)) (t : ℕ) (g : G) (e : E) (d : Decision) (ys : List (Slot G E)) (s : S)
       → Safe (xs ++ (slot t g e d ∷ ys)) s → every (R .guard e) (outcomes R xs s) ≡ true
   safe-every xs t g e d ys s h =
-      no-every (R .guard e) (outcomes R xs s) (total-tally R (no-of (R .guard e)) xs s ∙ safe-split xs t g e d ys s h)
-
-  -- and where that is so of a request, no outcome votes no on the walk
-  pub every-tally : (xs : List (Slot G E)) (e : E) (s : S) → every (R .guard e) (outcomes R xs s) ≡ true → tally R (no-of (R .guard e)) xs s ≡ zero
-  every-tally xs e s h = sym (total-tally R (no-of (R .guard e)) xs s) ∙ every-no (R .guard e) (outcomes R xs s) h
+      way-every R (R .guard e) xs s (safe-split xs t g e d ys s h)
 
   -- the clause of "in order" says the same
   pub safe-guarded : (s : S) (before rest : List (Slot G E)) → Safe (before ++ rest) s → guarded R s before rest ≡ true
@@ -105,7 +93,7 @@ module _ {G S E B : Type 0} (R : Rule S E B) where
   guarded-safe s before (slot t g e d ∷ rest) h q =
       rw (← append-assoc before (slot t g e d ∷ []) rest)
       (guarded-safe s (before ++ (slot t g e d ∷ [])) rest
-      (safe-accept t g e d before s h (every-tally before e s (and-left (every (R .guard e) (outcomes R before s)) (guarded R s (before ++ (slot t g e d ∷ [])) rest) q)))
+      (safe-accept t g e d before s h (every-way R (R .guard e) before s (and-left (every (R .guard e) (outcomes R before s)) (guarded R s (before ++ (slot t g e d ∷ [])) rest) q)))
       (and-right (every (R .guard e) (outcomes R before s)) (guarded R s (before ++ (slot t g e d ∷ [])) rest) q))
 
 -- two rules whose effects agree wherever the guard holds have the same outcomes of safe events

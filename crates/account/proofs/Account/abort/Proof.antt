@@ -9,7 +9,7 @@ use borrow.Author.Tests.{not-true, not-false}
 use Rattle.rule.specs.Rule.{abort, dropped}
 use Rattle.account.specs.Order.{orderOf}
 use Rattle.account.specs.Steps.{RuleEntry}
-use Rattle.account.proofs.Refusals.{out-of-order, abort-8, abort-11, abort-taken, aborted-rows}
+use Rattle.account.proofs.Refusals.{out-of-order, abort-8, abort-11, abort-taken, aborted-guarded, aborted-rows}
 use Rattle.account.proofs.Account.abort.Statement.{statement}
 use Rattle.account.proofs.Account.abort.Tie as tie
 
@@ -77,6 +77,7 @@ returns-4 c =
     let entry : RuleEntry = dropped (x .transaction) (x .second) (x .event) in
     let found : s .result .named ≡ true = not-false (s .result .named) (c .before .before .before .before .before .before .before .before .before .if2 .left) in
     c .settle .ensures (entry ∷ []) (c .before .only .ensures .list entry (c .before .before .before .before .dropped .ensures))
+    (aborted-guarded (args .self) (args .transaction) (s .result) (s .ensures) ok (args .second) (c .before .before .before .before .before .before .before .before .if3 .left) (made .result) (made .ensures .list))
     ∙ aborted-rows (args .self) (args .transaction) (s .result) (s .ensures) ok (args .second) (made .result) (kept .result) (made .ensures .list) (kept .ensures .list) found
     ∙ abort-taken (args .self) (args .transaction) (s .result) (s .ensures) ok (args .second) found (c .before .before .before .before .before .before .before .before .if3 .left)
 

@@ -9,7 +9,7 @@ use borrow.Author.Tests.{not-true, not-false}
 use Rattle.rule.specs.Rule.{commit, noted}
 use Rattle.account.specs.Order.{orderOf}
 use Rattle.account.specs.Steps.{RuleEntry}
-use Rattle.account.proofs.Refusals.{out-of-order, commit-8, commit-9, commit-10, commit-taken, committed-rows}
+use Rattle.account.proofs.Refusals.{out-of-order, commit-8, commit-9, commit-10, commit-taken, committed-guarded, committed-rows}
 use Rattle.account.proofs.Account.commit.Statement.{statement}
 use Rattle.account.proofs.Account.commit.Tie as tie
 
@@ -81,6 +81,7 @@ returns-5 c =
     let made = c .before .before .marked in
     let entry : RuleEntry = noted (args .transaction) (args .second) in
     c .settle .ensures (entry ∷ []) (c .before .only .ensures .list entry (c .before .before .before .before .before .before .noted .ensures))
+    (committed-guarded (args .self) (args .transaction) (s .result) (s .ensures) ok (args .second) (made .result) (made .ensures .list))
     ∙ committed-rows (args .self) (args .transaction) (s .result) (s .ensures) ok (args .second) (made .result) (made .ensures .list)
     ∙ commit-taken (args .self) (args .transaction) (s .result) (s .ensures) ok (args .second) (not-false (s .result .named) (c .before .before .before .before .before .before .before .before .before .if2 .left)) (c .before .before .before .before .before .before .before .before .if3 .left) (c .before .before .before .before .before .before .before .if4 .left)
 

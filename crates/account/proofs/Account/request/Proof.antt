@@ -9,6 +9,7 @@ use Rattle.rule.specs.Rule.{request}
 use Rattle.account.specs.Places.{listsOf}
 use Rattle.account.specs.Order.{orderOf}
 use Rattle.account.proofs.Refusals.{out-of-order, request-6, request-7, request-taken}
+use Rattle.account.proofs.Guarded.{order-guarded}
 use Rattle.account.proofs.Account.request.Statement.{statement}
 use Rattle.account.proofs.Account.request.Tie as tie
 
@@ -58,7 +59,7 @@ unfolding listsOf
 returns-4 c =
     let args = c .before .before .before .before .before .before .before .before .before .before .args in
     let s = c .before .before .before .before .before .before .before .seek in
-    c .ask .ensures (listsOf (args .self) .progress) (listsOf (args .self) .held) (s .ensures .progress) (s .ensures .held)
+    c .ask .ensures (listsOf (args .self) .progress) (listsOf (args .self) .held) (s .ensures .progress) (s .ensures .held) (order-guarded (args .self) (in-order (c .before .before .before .before .before .before .before .before)))
     ∙ request-taken (args .self) (args .transaction) (s .result) (s .ensures) (in-order (c .before .before .before .before .before .before .before .before)) (args .second) (args .event) (c .before .before .before .before .before .before .if2 .left) (c .before .if3 .left)
 
 pub request-spec : {M : Type 1} → statement M

@@ -36,8 +36,8 @@ returns c =
     let a = c .before .before .before .before .before .before .before .args in
     let few : length (used (a .progress) (a .progressing)) ≤ 8 = rw (count-used (a .progress) (a .progressing) (omega arith)) (omega arith) in
     let few′ : length (used (a .held) (a .holding)) ≤ 8 = rw (count-used (a .held) (a .holding) (omega arith)) (omega arith) in
-    rw (c .before .before .before .before .before .before .fits2 .ensures, c .before .before .before .before .before .apart .ensures, c .before .before .before .before .apart2 .ensures, c .before .before .before .without-decision .ensures, c .before .before .guarded .ensures, c .before .oldest-undecided .ensures, c .oldest-stays-held .ensures)
-    (order-lists (a .s) (used (a .progress) (a .progressing)) (used (a .held) (a .holding)) few few′)
+    rw (c .before .before .before .before .before .before .fits2 .ensures, c .before .before .before .before .before .apart .ensures, c .before .before .before .before .apart2 .ensures, c .before .before .before .without-decision .ensures, c .before .before .guarded .ensures, c .before .oldest-undecided .ensures)
+    (order-lists (a .s) (used (a .progress) (a .progressing)) (used (a .held) (a .holding)) few few′ (c .oldest-stays-held .result) (c .oldest-stays-held .ensures))
 
 pub lists-in-order-spec : {M : Type 1} → statement M
 lists-in-order-spec =

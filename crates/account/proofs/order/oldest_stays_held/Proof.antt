@@ -10,7 +10,7 @@ use Rattle.account.proofs.order.oldest_stays_held.Statement.{statement}
 use Rattle.account.proofs.order.oldest_stays_held.Tie as tie
 
 returns : tie.Need-returns
-returns c = search needs
+returns c = λ g. rw (c .if1 .taken)
 
 array-copy-out-place : tie.Need-array-copy-out-place
 array-copy-out-place c = search needs
@@ -24,8 +24,9 @@ is-hold-requires c κs = search needs
 returns-2 : tie.Need-returns-2
 returns-2 c =
     let a = c .before .before .before .before .args in
+    λ g.
     rw (used-next (a .holding) (a .t4) 0 blank (omega arith) (omega arith))
-    (c .is-hold .ensures ∙ stays (c .before .decide .result) _ (a .s) (used (a .progress) (a .progressing)) (c .before .decide .ensures))
+    (c .is-hold .ensures ∙ stays (c .before .decide .result) _ (a .s) (used (a .progress) (a .progressing)) (c .before .decide .ensures .decided g))
 
 pub oldest-stays-held-spec : {M : Type 1} → statement M
 oldest-stays-held-spec =

@@ -24,9 +24,9 @@ use Rattle.account.specs.Weighing.{verdictOf}
 use Rattle.account.specs.Steps.{RuleEntry}
 use Rattle.account.specs.Taken.{takenAs, joinedBy, undecidedSlot}
 use Rattle.account.proofs.Padded.{as-many}
-use Rattle.account.proofs.Slices.{usedFrom, used-end, used-next}
-use Rattle.account.proofs.Rows.{row-list}
-use Rattle.account.proofs.Taken.{accepted-room, taken-still, drain-none, drain-hold, drain-next}
+use Rattle.account.proofs.Slices.{usedFrom, used-end, used-next, count-used}
+use Rattle.account.proofs.Guarded.{decided-row, joined-guarded}
+use Rattle.account.proofs.Taken.{taken-still, drain-none, drain-hold, drain-next}
 use Rattle.account.proofs.steps.+drain.{statement}
 use Rattle.account.proofs.steps.+drain.Tie.{close}
 
@@ -61,7 +61,7 @@ drain-returns : (t : ℕ) → drain-lts.Need-returns (called t) (drain-at t) dra
 drain-returns t c =
     let start = c .before .before .before .before in
     let args = start .args in
-    λ ps es p e.
+    λ ps es p e g.
     c .taken .ensures ps (usedFrom (args .first) (args .held .count) (args .held .slots)) es p (c .before .after .ensures .list) e
     ∙ taken-still (args .state) ps (usedFrom (args .first) (args .held .count) (args .held .slots)) es
     (drain-none (args .state) ps (usedFrom (args .first) (args .held .count) (args .held .slots)) (used-end (args .held .count) (args .held .slots) (args .first) (omega arith)))
@@ -91,10 +91,10 @@ drain-returns-2 t c =
     let x = getD (args .held .slots) (args .first) blank in
     let rest = usedFrom (args .first + 1) (args .held .count) (args .held .slots) in
     let w = c .before .before .before .before .decide in
-    λ ps es p e.
+    λ ps es p e g.
     c .taken2 .ensures ps (usedFrom (args .first) (args .held .count) (args .held .slots)) es p (c .before .after2 .ensures .list) e
     ∙ taken-still (args .state) ps (usedFrom (args .first) (args .held .count) (args .held .slots)) es
-    (drain-hold (args .state) ps x (w .result) (rw (row-list (args .progress) ps p) at (w .ensures)) (usedFrom (args .first) (args .held .count) (args .held .slots)) rest (oldest t (c .before .before .before .before .before .before .before .before)) (sym (c .before .before .before .is-hold .ensures) ∙ c .before .before .if2 .taken))
+    (drain-hold (args .state) ps x (w .result) (decided-row (x .event) (args .state) (args .progress) ps p (w .result) (w .ensures) g) (usedFrom (args .first) (args .held .count) (args .held .slots)) rest (oldest t (c .before .before .before .before .before .before .before .before)) (sym (c .before .before .before .is-hold .ensures) ∙ c .before .before .if2 .taken))
 
 drain-joined-requires : (t : ℕ) → drain-lts.Need-joined-requires (called t) (drain-at t) drain.Post
 drain-joined-requires t c κs =
@@ -102,7 +102,7 @@ drain-joined-requires t c κs =
     let args = start .args in
     let w = c .before .before .decide in
     let size : length (args .progress .slots) ≡ 8 = as-many (args .progress .slots) (start .good .1 .0 .1 .1 .0 .1 .0 .1) in
-    (omega arith, λ v. accepted-room (w .result) (getD (args .held .slots) (args .first) blank .event) (args .state) (args .progress .slots) (args .progress .count) (omega arith) (w .ensures) v)
+    (omega arith, λ v. rw (count-used (args .progress .slots) (args .progress .count) (omega arith)) at (w .ensures .free v))
 
 drain-add-drain : (t : ℕ) → drain-lts.Need-add-drain (called t) (drain-at t) drain.Post
 drain-add-drain t c = search needs
@@ -124,12 +124,14 @@ drain-returns-3 t c =
     let rest = usedFrom (args .first + 1) (args .held .count) (args .held .slots) in
     let w = c .before .before .before .before .before .before .decide in
     let vote : RuleEntry = voted (verdictOf (w .result .verdict)) (x .transaction) (x .second) (x .event) (w .result .weighed) in
-    λ ps es p e.
+    λ ps es p e g.
+    let decided = decided-row (x .event) (args .state) (args .progress) ps p (w .result) (w .ensures) g in
     c .drain .ensures (joinedBy (verdictOf (w .result .verdict)) ps (undecidedSlot x)) (es ++ (vote ∷ []))
     (c .before .before .before .joined .ensures .list ps p)
     (c .before .with .ensures .list es vote e (c .before .before .voted .ensures))
+    (joined-guarded (x .event) (args .state) ps (w .result) decided g (x .transaction) (x .second))
     ∙ ap takenAs
-    (drain-next (args .state) ps x (w .result) (rw (row-list (args .progress) ps p) at (w .ensures)) (usedFrom (args .first) (args .held .count) (args .held .slots)) rest es (oldest t (c .before .before .before .before .before .before .before .before .before .before)) (sym (c .before .before .before .before .before .is-hold .ensures) ∙ c .before .before .before .before .if2 .left))
+    (drain-next (args .state) ps x (w .result) decided (usedFrom (args .first) (args .held .count) (args .held .slots)) rest es (oldest t (c .before .before .before .before .before .before .before .before .before .before)) (sym (c .before .before .before .before .before .is-hold .ensures) ∙ c .before .before .before .before .if2 .left))
 
 pub +drain-spec : {M : Type 1} → statement M
 +drain-spec = close μ-drain λ t. drain-lts.spec (called t)

@@ -14,17 +14,21 @@ use Rattle.account.proofs.Entry.applied.Reads as applied-reads
 use Rattle.account.proofs.steps.drain.Reads as drain-reads
 use Rattle.account.proofs.weighing.effect.Reads as effect-reads
 use mathlib.Core.Path.{_≡_, sym, ap, _∙_}
+use mathlib.Core.Bool.{true}
 use mathlib.Core.List.{[], _∷_, _++_}
 use native.Mathlib.Omega.{arith}
 use lib.ListN.{length, getD}
 use Rattle.rule.specs.Rule.{applied}
 use Rattle.rule.specs.Step.{after}
+use Rattle.rule.specs.Order.{guarded}
+use Rattle.account.specs.Panel.{effectOf, panel}
 use Rattle.account.specs.Places.{slotOf, blank}
 use Rattle.account.specs.Steps.{RuleEntry}
 use Rattle.account.specs.Rows.{listOf}
 use Rattle.account.specs.Taken.{RuleStep, takenAs}
 use Rattle.account.proofs.Padded.{as-many}
 use Rattle.account.proofs.Slices.{usedFrom, used-next}
+use Rattle.account.proofs.Guarded.{settled-guarded}
 use Rattle.account.proofs.Taken.{settle-done, settle-next, unsettled-below}
 use Rattle.account.proofs.steps.+settle.{statement}
 use Rattle.account.proofs.steps.+settle.Tie.{close}
@@ -59,8 +63,8 @@ settle-drain-requires t c κs = search needs
 settle-returns : (t : ℕ) → settle-lts.Need-returns (called t) (settle-at t) settle.Post
 settle-returns t c =
     let args = c .before .before .before .before .args in
-    λ es e.
-    c .drain .ensures (usedFrom (args .first) (args .progress .count) (args .progress .slots)) es (c .before .after .ensures .list) e
+    λ es e g.
+    c .drain .ensures (usedFrom (args .first) (args .progress .count) (args .progress .slots)) es (c .before .after .ensures .list) e g
     ∙ ap (λ (step : RuleStep). takenAs (after es step)) (sym (settle-done (args .state) (listOf (args .held)) (usedFrom (args .first) (args .progress .count) (args .progress .slots)) (sym (c .before .before .before .settled .ensures) ∙ c .before .before .if1 .taken)))
 
 settle-mul-slot : (t : ℕ) → settle-lts.Need-mul-slot (called t) (settle-at t) settle.Post
@@ -95,10 +99,14 @@ settle-returns-2 t c =
     in
     let effect = c .before .before .before .effect in
     let entry : RuleEntry = applied (x .transaction) (x .second) (x .event) (effect .result .balance) in
-    λ es e.
-    rw (effect .ensures) at (c .settle .ensures (es ++ (entry ∷ [])) (c .before .with .ensures .list es entry e (c .before .before .applied .ensures)))
+    let unsettled = sym (c .before .before .before .before .before .before .before .settled .ensures) ∙ c .before .before .before .before .before .before .if1 .left in
+    λ es e g.
+    let rest : guarded panel (effectOf (x .event) (args .state)) [] (usedFrom (args .first + 1) (args .progress .count) (args .progress .slots)) ≡ true =
+    settled-guarded (args .state) x (usedFrom (args .first) (args .progress .count) (args .progress .slots)) (usedFrom (args .first + 1) (args .progress .count) (args .progress .slots)) next unsettled g
+    in
+    (rw (effect .ensures) at (c .settle .ensures (es ++ (entry ∷ [])) (c .before .with .ensures .list es entry e (c .before .before .applied .ensures)))) rest
     ∙ ap takenAs
-    (settle-next (args .state) (listOf (args .held)) x (usedFrom (args .first) (args .progress .count) (args .progress .slots)) (usedFrom (args .first + 1) (args .progress .count) (args .progress .slots)) es next (sym (c .before .before .before .before .before .before .before .settled .ensures) ∙ c .before .before .before .before .before .before .if1 .left))
+    (settle-next (args .state) (listOf (args .held)) x (usedFrom (args .first) (args .progress .count) (args .progress .slots)) (usedFrom (args .first + 1) (args .progress .count) (args .progress .slots)) es next unsettled)
 
 pub +settle-spec : {M : Type 1} → statement M
 +settle-spec = close μ-settle λ t. settle-lts.spec (called t)

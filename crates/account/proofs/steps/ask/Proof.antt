@@ -17,7 +17,7 @@ use Rattle.account.specs.Taken.{takenAs, joinedBy}
 use Rattle.account.proofs.Padded.{as-many}
 use Rattle.account.proofs.Slices.{count-used}
 use Rattle.account.proofs.Rows.{row-list, row-count}
-use Rattle.account.proofs.Taken.{accepted-behind, asked-hold, asked-other}
+use Rattle.account.proofs.Taken.{asked-hold, asked-other}
 use Rattle.account.proofs.steps.ask.Statement.{statement}
 use Rattle.account.proofs.steps.ask.Tie as tie
 
@@ -46,9 +46,9 @@ returns c =
     let vote : RuleEntry = voted (verdictOf (w .result .verdict)) (args .transaction) (args .second) (args .event) (w .result .weighed) in
     let es : c .before .before .before .before .only .result ≡ entriesOf (vote ∷ []) = c .before .before .before .before .only .ensures .list vote (c .before .before .before .before .before .voted .ensures) in
     let x : RuleSlot = slot (args .transaction) (args .second) (args .event) undecided in
-    λ ps hs p h.
+    λ ps hs p h g.
     let decided : weighingOf (w .result) ≡ decideBehind panel hs (args .event) (args .state) ps =
-    rw (row-list (args .progress) ps p) at (w .ensures hs (row-count (args .held) hs h))
+    (rw (row-list (args .progress) ps p) at (w .ensures hs (row-count (args .held) hs h))) .decided g
     in
     c .taken .ensures ps (hs ++ (x ∷ [])) (vote ∷ []) p (c .before .with .ensures .list hs h) es
     ∙ ap takenAs
@@ -64,7 +64,7 @@ joined-requires c κs =
     let many : length (listOf (args .progress)) ≡ args .progress .count = count-used (args .progress .slots) (args .progress .count) (omega arith) in
     let waits : length (listOf (args .held)) ≡ args .held .count = count-used (args .held .slots) (args .held .count) (omega arith) in (
       omega arith,
-      λ v. rw many at (accepted-behind (w .result) (args .event) (args .state) (listOf (args .held)) (listOf (args .progress)) (w .ensures (listOf (args .held)) (sym waits)) v),
+      λ v. rw many at (w .ensures (listOf (args .held)) (sym waits) .free v),
     )
 
 taken-requires-2 : tie.Need-taken-requires-2
@@ -77,9 +77,9 @@ returns-2 c =
     let vote : RuleEntry = voted (verdictOf (w .result .verdict)) (args .transaction) (args .second) (args .event) (w .result .weighed) in
     let es : c .before .before .before .before .only .result ≡ entriesOf (vote ∷ []) = c .before .before .before .before .only .ensures .list vote (c .before .before .before .before .before .voted .ensures) in
     let x : RuleSlot = slot (args .transaction) (args .second) (args .event) undecided in
-    λ ps hs p h.
+    λ ps hs p h g.
     let decided : weighingOf (w .result) ≡ decideBehind panel hs (args .event) (args .state) ps =
-    rw (row-list (args .progress) ps p) at (w .ensures hs (row-count (args .held) hs h))
+    (rw (row-list (args .progress) ps p) at (w .ensures hs (row-count (args .held) hs h))) .decided g
     in
     c .taken2 .ensures (joinedBy (verdictOf (w .result .verdict)) ps x) hs (vote ∷ []) (c .before .joined .ensures .list ps p) h es
     ∙ ap takenAs

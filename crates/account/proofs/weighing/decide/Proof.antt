@@ -1,26 +1,35 @@
--- `account::weighing::decide` meets its contract: with no free place the request is held, else the votes fix the verdict.
+-- `account::weighing::decide` meets its contract: with no free place the request is held, else the ends decide.
 -- Assumes nothing.
 use native.Mathlib.Omega.{arith}
 use borrow.Author.Needs.{needs}
-use Rattle.account.proofs.Votes.{decide-full, decide-votes}
+use Rattle.account.proofs.Decided.{decided-full, decided-ends}
 use Rattle.account.proofs.weighing.decide.Statement.{statement}
 use Rattle.account.proofs.weighing.decide.Tie as tie
 
 returns : tie.Need-returns
 returns c =
     let a = c .before .args in
-    decide-full (a .e) (a .s) (a .progressing) (a .progress) (omega arith) (c .if1 .taken)
+    decided-full (a .e) (a .s) (a .progressing) (a .progress) (omega arith) (c .if1 .taken)
 
-weigh-requires : tie.Need-weigh-requires
-weigh-requires c κs = search needs
+walk-requires : tie.Need-walk-requires
+walk-requires c κs = search needs
+
+every-requires : tie.Need-every-requires
+every-requires c κs = search needs
+
+some-requires : tie.Need-some-requires
+some-requires c κs = search needs
 
 verdict-of-requires : tie.Need-verdict-of-requires
 verdict-of-requires c κs = search needs
 
 returns-2 : tie.Need-returns-2
 returns-2 c =
-    let a = c .before .before .before .args in
-    rw (c .verdict-of .ensures, c .before .weigh .ensures) (decide-votes (a .e) (a .s) (a .progressing) (a .progress) (omega arith) (omega arith))
+    let a = c .before .before .before .before .before .before .args in
+    let w = c .before .before .before .before .walk in
+    rw (c .verdict-of .ensures, c .before .before .every .ensures, c .before .some .ensures) (decided-ends (a .e) (a .s) (a .progressing) (a .progress) (omega arith) (omega arith) (w .result) (w .ensures))
 
 pub decide-spec : {M : Type 1} → statement M
-decide-spec = tie.close (tie.spec returns weigh-requires verdict-of-requires returns-2)
+decide-spec =
+    tie.close
+    (tie.spec returns walk-requires every-requires some-requires verdict-of-requires returns-2)
