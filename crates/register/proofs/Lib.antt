@@ -6,6 +6,7 @@ pub mod Seconds
 pub mod Demand2
 pub mod Demands
 pub mod Accounts
+pub mod InPlace
 pub mod Calls
 pub mod Moved
 pub mod Underway

@@ -16,12 +16,13 @@ use Rattle.layout.specs.Number.{numberAt}
 use Rattle.layout.specs.Fields.{rowOf, wholeOf}
 use Rattle.message.specs.Bytes.{messages}
 use Rattle.register.specs.declared.Register.{Register}
-use Rattle.register.specs.declared.Called.{Called}
+use Rattle.register.specs.declared.Answer.{Answer}
 use Rattle.register.specs.declared.runs.Ran.{Ran}
 use Rattle.register.specs.declared.runs.Passed.{Passed}
 use Rattle.register.specs.Register.{freshRegister}
 use Rattle.register.specs.Call.{Result, callOf}
 use Rattle.register.specs.Run.{Run, nothing, ended, lengthAt, passedOf, one, added, joined, first, runFrom, runOf, Countable}
+use Rattle.register.proofs.InPlace.{Gives}
 use Rattle.register.proofs.Moved.{Moved, call-moves}
 
 -- what is done of a run: its counts, and the entries that are written
@@ -93,22 +94,20 @@ pub record Turn (bytes : List ℕ) (r : Register) (ran : Ran) (entries : List �
   pub leaves : left ≡ take (ran .written) entries ++ callOf r (drop (ran .consumed) bytes) (drop (ran .written) entries) .buffer
 
 -- what the code has at hand is a turn
-pub turned : (bytes : List ℕ) (r : Register) (ran : Ran) (entries : List ℕ) (kind whole : ℕ) (called : Called) (passed : Passed) (last : List ℕ)
+pub turned : (bytes : List ℕ) (r : Register) (ran : Ran) (entries : List ℕ) (kind whole : ℕ) (answer : Answer) (next : Register) (passed : Passed) (last : List ℕ)
     → ran .written ≤ length entries
     → kind ≡ numberAt (take (length bytes - ran .consumed) (drop (ran .consumed) bytes)) 0 1
     → whole ≡ wholeOf (rowOf messages kind)
-    → called .answer ≡ callOf r (take (length bytes - ran .consumed) (drop (ran .consumed) bytes)) (take (length entries - ran .written) (drop (ran .written) entries)) .answer
-    → called .register ≡ callOf r (take (length bytes - ran .consumed) (drop (ran .consumed) bytes)) (take (length entries - ran .written) (drop (ran .written) entries)) .register
-    → last ≡ callOf r (take (length bytes - ran .consumed) (drop (ran .consumed) bytes)) (take (length entries - ran .written) (drop (ran .written) entries)) .buffer
-    → passed ≡ passedOf (called .answer) whole
-    → Turn bytes r ran entries (called .register) passed (putMid (ran .written) (length entries - ran .written) entries last)
-turned bytes r ran entries kind whole called passed last room k w a g b p =
+    → Gives r (take (length bytes - ran .consumed) (drop (ran .consumed) bytes)) (take (length entries - ran .written) (drop (ran .written) entries)) answer next last
+    → passed ≡ passedOf answer whole
+    → Turn bytes r ran entries next passed (putMid (ran .written) (length entries - ran .written) entries last)
+turned bytes r ran entries kind whole answer next passed last room k w g p =
     let rest = part-to-end bytes (ran .consumed) in
     let free = part-to-end entries (ran .written) in
     record {
-      comes = p ∙ rw (w, k, a, rest, free);
-      follows = g ∙ rw (rest, free);
-      leaves = rw (post-is (ran .written) (length entries) entries room, drop-length entries, append-nil, b, rest, free);
+      comes = p ∙ rw (w, k, g .0, rest, free);
+      follows = g .1 ∙ rw (rest, free);
+      leaves = rw (post-is (ran .written) (length entries) entries room, drop-length entries, append-nil, g .2, rest, free);
     }
 
 -- the seam between what was written before and what a call leaves

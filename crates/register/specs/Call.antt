@@ -21,7 +21,6 @@ use Rattle.entry.specs.Bytes.{bytesOfEntries, listOf}
 use Rattle.entry.specs.Answers.{longestCall}
 use Rattle.register.specs.declared.Register.{Register}
 use Rattle.register.specs.declared.Answer.{Answer}
-use Rattle.register.specs.declared.Called.{Called}
 use Rattle.register.specs.declared.Answer.the-variants.{Refused, Taken}
 use Rattle.register.specs.Register.{accountAt, withAccount, stepBy}
 
@@ -47,11 +46,6 @@ readingNumber (Reading′.Refused n) = n
 abbrev pub stepNumber : StepAnswer → ℕ
 stepNumber (Step′.Refused n) = n
 stepNumber Step′.Taken = 0
-
--- a refusal as a value: its number and the same register
-pub record Refusing (r : Register) (n : ℕ) (called : Called) : Type 0 where
-  pub answer : called .answer ≡ Refused n
-  pub register : called .register ≡ r
 
 -- what a call gives
 pub record Result : Type 0 where

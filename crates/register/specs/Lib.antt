@@ -1,5 +1,6 @@
 pub mod Register
 pub mod Call
+pub mod Named
 pub mod Unchanged
 pub mod Sequence
 pub mod Fits

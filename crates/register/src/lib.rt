@@ -1,19 +1,15 @@
 // The register: sixteen accounts side by side. A message changes the one that it names, in its place.
 mod export;
+mod named;
 mod place;
 mod runs;
 
 use account::Account;
 use account::Outlook;
-use layout::Writing;
-use message::Heading;
-use message::Message;
-use message::Reading;
 ghost use mathlib.Core.Path.{_≡_};
 ghost use Prim.Native.Nat.{_<_};
-ghost use Rattle.message.specs.Bytes.{headingOf};
-ghost use Rattle.register.specs.Register.{freshRegister, withAccount, stepBy, outlookIn};
-ghost use Rattle.register.specs.Call.{callOf, Refusing, readingNumber, stepNumber};
+ghost use Rattle.register.specs.Register.{freshRegister, withAccount, outlookIn};
+ghost use Rattle.register.specs.Call.{callOf};
 
 pub struct Register {
     pub accounts: [Account; 16],
@@ -46,27 +42,13 @@ impl Register {
         ensures { λ r. ⌜ (r .answer ≡ callOf self (now (bytes .entry)) (now (buffer .entry)) .answer) × (r .register ≡ callOf self (now (bytes .entry)) (now (buffer .entry)) .register) × (now (buffer .exit) ≡ callOf self (now (bytes .entry)) (now (buffer .entry)) .buffer) ⌝ }
     {
         let reading = message::read_message(bytes);
-        let Reading::Message(message, consumed) = reading else {
-            return self.refused(refusal_of_reading(reading));
-        };
-        if buffer.len() < entry::LONGEST_CALL {
-            return self.refused(4);
-        }
-        let heading = heading_of(message);
-        let at = heading.account as usize;
+        let at = named::place_of(reading);
         let accounts = self.accounts;
-        let called = step(accounts[at], message);
-        let answer = called.answer;
-        let account::Answer::Taken = answer else {
-            return self.refused(refusal_of_step(answer));
-        };
-        let writing = entry::write_entries(called.entries, heading.account, buffer);
-        let Writing::Written(written) = writing else {
-            return self.refused(4);
-        };
+        let answered = named::send(accounts[at], reading, buffer);
+        let answer = answered.answer;
         Called {
-            answer: Answer::Taken(consumed, written),
-            register: self.with_account(at, called.account),
+            answer,
+            register: self.with_account(at, answered.account),
         }
     }
 
@@ -83,16 +65,6 @@ impl Register {
         named.outlook(number)
     }
 
-    // A refusal: its number and the same register.
-    fn refused(self, number: u8) -> Called
-        ensures { λ r. ⌜ Refusing self number r ⌝ }
-    {
-        Called {
-            answer: Answer::Refused(number),
-            register: self,
-        }
-    }
-
     // The register with another account at that number.
     fn with_account(self, at: usize, next: Account) -> Register
         requires { ⌜ at < 16 ⌝ }
@@ -102,51 +74,5 @@ impl Register {
         Register {
             accounts: place::placed(accounts, at, next),
         }
-    }
-}
-
-// What the account answers to a message: the account that follows, and its entries.
-fn step(account: Account, message: Message) -> account::Called
-    ensures { λ r. ⌜ r ≡ stepBy account message ⌝ }
-{
-    match message {
-        Message::Request(heading, event) => account.request(
-            heading.transaction,
-            heading.second,
-            event,
-        ),
-        Message::Commit(heading) => account.commit(heading.transaction, heading.second),
-        Message::Abort(heading) => account.abort(heading.transaction, heading.second),
-    }
-}
-
-// The transaction, account and second of a message.
-fn heading_of(message: Message) -> Heading
-    ensures { λ r. ⌜ r ≡ headingOf message ⌝ }
-{
-    match message {
-        Message::Request(heading, _) => heading,
-        Message::Commit(heading) => heading,
-        Message::Abort(heading) => heading,
-    }
-}
-
-// The number of the reader's refusal; 0 where it gave a message.
-fn refusal_of_reading(reading: Reading) -> u8
-    ensures { λ r. ⌜ r ≡ readingNumber reading ⌝ }
-{
-    match reading {
-        Reading::Message(_, _) => 0,
-        Reading::Refused(number) => number,
-    }
-}
-
-// The number of a step's refusal; 0 where it was taken.
-fn refusal_of_step(answer: account::Answer) -> u8
-    ensures { λ r. ⌜ r ≡ stepNumber answer ⌝ }
-{
-    match answer {
-        account::Answer::Refused(number) => number,
-        account::Answer::Taken => 0,
     }
 }

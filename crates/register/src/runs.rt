@@ -1,6 +1,7 @@
 // A run of messages: they are sent to a fresh register one after the other, as the program does (document 01, "The program").
 use crate::Answer;
 use crate::Register;
+use crate::named;
 ghost use mathlib.Core.Path.{_≡_};
 ghost use Rattle.register.specs.Run.{runOf, passedOf, one, added, Countable};
 
@@ -24,7 +25,8 @@ pub(crate) struct Passed {
 pub fn run(messages: &[u8], entries: &mut [u8]) -> Ran
     ensures { λ r. ⌜ (r ≡ runOf (now (messages .entry)) (now (entries .entry)) .counts) × (now (entries .exit) ≡ runOf (now (messages .entry)) (now (entries .entry)) .entries) ⌝ }
 {
-    let mut register = Register::fresh();
+    let register = Register::fresh();
+    let mut accounts = register.accounts;
     let mut ran = Ran {
         met: 0,
         refused: 0,
@@ -36,14 +38,17 @@ pub fn run(messages: &[u8], entries: &mut [u8]) -> Ran
         let rest = &messages[at..];
         let whole = message::whole_length(layout::number1(rest, 0));
         let from = ran.written;
-        let called = register.call(rest, &mut entries[from..]);
-        let answer = called.answer;
+        let reading = message::read_message(rest);
+        let place = named::place_of(reading);
+        let answered = named::send(accounts[place], reading, &mut entries[from..]);
+        let answer = answered.answer;
         let passed = passed_by(answer, whole);
         ran = with_message(ran, passed);
         if passed.stops {
             return ran;
         }
-        register = called.register;
+        let next = answered.account;
+        accounts[place] = next;
     }
     ran
 }
