@@ -7,9 +7,8 @@ use message::Message;
 use message::Reading;
 ghost use mathlib.Core.Path.{_≡_};
 ghost use Rattle.message.specs.Bytes.{headingOf};
-ghost use Rattle.register.specs.Register.{stepBy};
 ghost use Rattle.register.specs.Call.{readingNumber, stepNumber};
-ghost use Rattle.register.specs.Named.{placeOf, sentTo, accountAfter, Refusing};
+ghost use Rattle.register.specs.Named.{placeOf, sentTo, accountAfter, Fitting, filedOf, Refusing};
 
 // What a call gives of the account that it names, beside the buffer: the answer, and the account that follows.
 pub(crate) struct Answered {
@@ -27,20 +26,19 @@ pub(crate) fn send(account: Account, reading: Reading, buffer: &mut [u8]) -> Ans
     if buffer.len() < entry::LONGEST_CALL {
         return refused(account, 4);
     }
-    let heading = heading_of(message);
-    let called = step(account, message);
-    let answer = called.answer;
-    let account::Answer::Taken = answer else {
-        return refused(account, refusal_of_step(answer));
-    };
-    let writing = entry::write_entries(called.entries, heading.account, buffer);
-    let Writing::Written(written) = writing else {
-        return refused(account, 4);
-    };
-    let next = called.account;
-    Answered {
-        answer: Answer::Taken(consumed, written),
-        account: next,
+    match message {
+        Message::Request(heading, event) => {
+            let called = account.request(heading.transaction, heading.second, event);
+            file(called, heading.account, consumed, buffer)
+        }
+        Message::Commit(heading) => {
+            let called = account.commit(heading.transaction, heading.second);
+            file(called, heading.account, consumed, buffer)
+        }
+        Message::Abort(heading) => {
+            let called = account.abort(heading.transaction, heading.second);
+            file(called, heading.account, consumed, buffer)
+        }
     }
 }
 
@@ -57,6 +55,26 @@ pub(crate) fn place_of(reading: Reading) -> usize
     }
 }
 
+// Files what the account of that number made of a message: its refusal, or its entries at the beginning of the buffer. Each kind of message has its own call of it, so that the entries lie where the account left them.
+fn file(called: account::Called, number: u16, consumed: usize, buffer: &mut [u8]) -> Answered
+    requires { ⌜ Fitting called number (now buffer) ⌝ }
+    ensures { λ r. ⌜ (r .answer ≡ filedOf called number consumed (now (buffer .entry)) .answer) × (r .account ≡ called .account) × (now (buffer .exit) ≡ filedOf called number consumed (now (buffer .entry)) .buffer) ⌝ }
+{
+    let answer = called.answer;
+    let next = called.account;
+    let account::Answer::Taken = answer else {
+        return refused(next, refusal_of_step(answer));
+    };
+    let writing = entry::write_entries(called.entries, number, buffer);
+    let Writing::Written(written) = writing else {
+        return refused(next, 4);
+    };
+    Answered {
+        answer: Answer::Taken(consumed, written),
+        account: next,
+    }
+}
+
 // A refusal: its number and the same account.
 fn refused(account: Account, number: u8) -> Answered
     ensures { λ r. ⌜ Refusing account number r ⌝ }
@@ -64,21 +82,6 @@ fn refused(account: Account, number: u8) -> Answered
     Answered {
         answer: Answer::Refused(number),
         account,
-    }
-}
-
-// What the account answers to a message: the account that follows, and its entries.
-fn step(account: Account, message: Message) -> account::Called
-    ensures { λ r. ⌜ r ≡ stepBy account message ⌝ }
-{
-    match message {
-        Message::Request(heading, event) => account.request(
-            heading.transaction,
-            heading.second,
-            event,
-        ),
-        Message::Commit(heading) => account.commit(heading.transaction, heading.second),
-        Message::Abort(heading) => account.abort(heading.transaction, heading.second),
     }
 }
 

@@ -1,7 +1,7 @@
--- Each way out is one law of `proofs/Calls.antt`.
+-- Each way out is one law of `proofs/Calls.antt`, which a message of each kind shares.
 -- Assumes nothing.
-use Rattle.register.proofs.Calls.{reading-refused, room-refused, account-refused, entries-fit, message-taken}
 use borrow.Author.Needs.{needs}
+use Rattle.register.proofs.Calls.{reading-refused, room-refused, step-fits, step-sent}
 use Rattle.register.proofs.named.send.Statement.{statement}
 use Rattle.register.proofs.named.send.Tie as tie
 
@@ -31,69 +31,77 @@ returns-2 c =
     let a = c .before .before .before .before .before .before .args in
     room-refused (a .account) (a .reading) (a .buffer .now) _ _ (c .refused2 .result) (c .before .before .before .reading .given .1) (c .before .if1 .taken) (c .refused2 .ensures)
 
-heading-of-requires : tie.Need-heading-of-requires
-heading-of-requires c κs = search needs
+enum-known-message : tie.Need-enum-known-message
+enum-known-message c = search needs
 
-step-requires : tie.Need-step-requires
-step-requires c κs = search needs
+request-requires : tie.Need-request-requires
+request-requires c κs = search needs
 
-enum-told-2 : tie.Need-enum-told-2
-enum-told-2 c = search needs
+file-requires : tie.Need-file-requires
+file-requires c κs =
+    let a = c .before .before .before .before .before .before .before .before .before .before .args in
+    let read = c .before .before .before .before .before .before .before .reading .given in
+    let stepped = c .before .request in
+    step-fits (a .account) (a .reading) (a .buffer .now) (read .0 .0) _ (read .0 .1 .0) (stepped .result) (read .1) (c .before .before .before .message .given .1) (c .before .before .before .before .before .if1 .left) (stepped .ensures)
 
-enum-told-3 : tie.Need-enum-told-3
-enum-told-3 c = search needs
+enum-known-message-2 : tie.Need-enum-known-message-2
+enum-known-message-2 c = search needs
 
-refusal-of-step-requires : tie.Need-refusal-of-step-requires
-refusal-of-step-requires c κs = search needs
+commit-requires : tie.Need-commit-requires
+commit-requires c κs = search needs
 
-refused-requires-3 : tie.Need-refused-requires-3
-refused-requires-3 c κs = search needs
+file-requires-2 : tie.Need-file-requires-2
+file-requires-2 c κs =
+    let a = c .before .before .before .before .before .before .before .before .before .before .args in
+    let read = c .before .before .before .before .before .before .before .reading .given in
+    let stepped = c .before .commit in
+    step-fits (a .account) (a .reading) (a .buffer .now) (read .0 .0) _ (read .0 .1 .0) (stepped .result) (read .1) (c .before .before .before .message2 .given .1) (c .before .before .before .before .before .if1 .left) (stepped .ensures)
 
-returns-3 : tie.Need-returns-3
-returns-3 c =
-    let a = c .before .before .before .before .before .before .before .before .before .before .before .args in
-    let read = c .before .before .before .before .before .before .before .before .reading .given in
-    let heading = c .before .before .before .before .before .heading-of in
-    let stepped = c .before .before .before .before .step in
-    account-refused (a .account) (a .reading) (a .buffer .now) (read .0 .0) (read .0 .1 .0) (stepped .result) (heading .result) (read .1) (c .before .before .before .before .before .before .if1 .left) (heading .ensures) (stepped .ensures)
-    (c .before .before .enum-told3 .given .0 .0) (c .before .refusal-of-step .result) (c .refused3 .result) (c .before .before .enum-told3 .given .1) (c .before .refusal-of-step .ensures) (c .refused3 .ensures)
+enum-known-message-3 : tie.Need-enum-known-message-3
+enum-known-message-3 c = search needs
 
-write-entries-requires : tie.Need-write-entries-requires
-write-entries-requires c κs = search needs
+abort-requires : tie.Need-abort-requires
+abort-requires c κs = search needs
 
-enum-known-writing : tie.Need-enum-known-writing
-enum-known-writing c = search needs
-
-enum-told-4 : tie.Need-enum-told-4
-enum-told-4 c = search needs
-
-refused-requires-4 : tie.Need-refused-requires-4
-refused-requires-4 c κs = search needs
+file-requires-3 : tie.Need-file-requires-3
+file-requires-3 c κs =
+    let a = c .before .before .before .before .before .before .before .before .before .before .args in
+    let read = c .before .before .before .before .before .before .before .reading .given in
+    let stepped = c .before .abort in
+    step-fits (a .account) (a .reading) (a .buffer .now) (read .0 .0) _ (read .0 .1 .0) (stepped .result) (read .1) (c .before .before .before .message3 .given .1) (c .before .before .before .before .before .if1 .left) (stepped .ensures)
 
 same-length : tie.Need-same-length
 same-length c = search needs
 
-returns-4 : tie.Need-returns-4
-returns-4 c =
-    let a = c .before .before .before .before .before .before .before .before .before .before .before .before .before .before .before .before .args in
-    let read = c .before .before .before .before .before .before .before .before .before .before .before .before .before .reading .given in
-    let heading = c .before .before .before .before .before .before .before .before .before .before .heading-of in
-    let stepped = c .before .before .before .before .before .before .before .before .before .step in
-    let written = c .before .before .before .before .before .write-entries in
-    absurd (entries-fit (a .account) (a .reading) (a .buffer .now) (read .0 .0) (read .0 .1 .0) (stepped .result) (heading .result) (read .1) (c .before .before .before .before .before .before .before .before .before .before .before .if1 .left) (heading .ensures) (stepped .ensures) (written .result) (c .before .enum-told4 .given .0 .0) (written .ensures .0) (c .before .enum-told4 .given .1))
+returns-3 : tie.Need-returns-3
+returns-3 c =
+    let a = c .before .before .before .before .before .before .before .before .before .before .before .before .before .args in
+    let read = c .before .before .before .before .before .before .before .before .before .before .reading .given in
+    let stepped = c .before .before .before .before .request in
+    let filed = c .before .before .file in
+    step-sent (a .account) (a .reading) (a .buffer .now) (read .0 .0) _ (read .0 .1 .0) (stepped .result) (read .1) (c .before .before .before .before .before .before .message .given .1) (c .before .before .before .before .before .before .before .before .if1 .left) (stepped .ensures) (filed .result) (filed .last .1 .1 .1 .0) (filed .ensures)
 
 same-length-2 : tie.Need-same-length-2
 same-length-2 c = search needs
 
+returns-4 : tie.Need-returns-4
+returns-4 c =
+    let a = c .before .before .before .before .before .before .before .before .before .before .before .before .before .args in
+    let read = c .before .before .before .before .before .before .before .before .before .before .reading .given in
+    let stepped = c .before .before .before .before .commit in
+    let filed = c .before .before .file2 in
+    step-sent (a .account) (a .reading) (a .buffer .now) (read .0 .0) _ (read .0 .1 .0) (stepped .result) (read .1) (c .before .before .before .before .before .before .message2 .given .1) (c .before .before .before .before .before .before .before .before .if1 .left) (stepped .ensures) (filed .result) (filed .last .1 .1 .1 .0) (filed .ensures)
+
+same-length-3 : tie.Need-same-length-3
+same-length-3 c = search needs
+
 returns-5 : tie.Need-returns-5
 returns-5 c =
-    let a = c .before .before .before .before .before .before .before .before .before .before .before .before .before .before .before .before .before .args in
-    let read = c .before .before .before .before .before .before .before .before .before .before .before .before .before .before .reading .given in
-    let heading = c .before .before .before .before .before .before .before .before .before .before .before .heading-of in
-    let stepped = c .before .before .before .before .before .before .before .before .before .before .step in
-    let written = c .before .before .before .before .before .before .write-entries in
-    message-taken (a .account) (a .reading) (a .buffer .now) (read .0 .0) (read .0 .1 .0) (stepped .result) (heading .result) (read .1) (c .before .before .before .before .before .before .before .before .before .before .before .before .if1 .left) (heading .ensures) (stepped .ensures)
-    (written .result) (c .before .before .writing .given .0 .0) (written .last .1 .1 .0) (c .before .before .before .before .before .before .before .before .enum-told2 .given .1) (written .ensures .0) (c .before .before .writing .given .1) (written .ensures .1)
+    let a = c .before .before .before .before .before .before .before .before .before .before .before .before .before .args in
+    let read = c .before .before .before .before .before .before .before .before .before .before .reading .given in
+    let stepped = c .before .before .before .before .abort in
+    let filed = c .before .before .file3 in
+    step-sent (a .account) (a .reading) (a .buffer .now) (read .0 .0) _ (read .0 .1 .0) (stepped .result) (read .1) (c .before .before .before .before .before .before .message3 .given .1) (c .before .before .before .before .before .before .before .before .if1 .left) (stepped .ensures) (filed .result) (filed .last .1 .1 .1 .0) (filed .ensures)
 
 pub send-spec : {M : Type 1} → statement M
 send-spec =
@@ -106,18 +114,18 @@ send-spec =
     returns
     refused-requires-2
     returns-2
-    heading-of-requires
-    step-requires
-    enum-told-2
-    enum-told-3
-    refusal-of-step-requires
-    refused-requires-3
-    returns-3
-    write-entries-requires
-    enum-known-writing
-    enum-told-4
-    refused-requires-4
+    enum-known-message
+    request-requires
+    file-requires
+    enum-known-message-2
+    commit-requires
+    file-requires-2
+    enum-known-message-3
+    abort-requires
+    file-requires-3
     same-length
-    returns-4
+    returns-3
     same-length-2
+    returns-4
+    same-length-3
     returns-5)
