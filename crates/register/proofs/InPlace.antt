@@ -13,7 +13,6 @@ use borrow.Author.Tests.{ltb-false}
 use Rattle.account.specs.declared.Account.{Account}
 use Rattle.account.specs.declared.Answer.{Answer as StepAnswer}
 use Rattle.account.specs.declared.Answer.the-variants as Step′
-use Rattle.account.specs.declared.Called as account
 use Rattle.account.specs.declared.Entries.{Entries}
 use Rattle.layout.specs.Number.{numberAt}
 use Rattle.layout.specs.Fields.{Row, rowOf, widthsOf, numbersAt, lastAccount}
@@ -132,5 +131,8 @@ pub call-gives : (r : Register) (bytes buffer : List ℕ) (x : Reading) (i : ℕ
     → left ≡ sentTo (accountAt r i) x buffer .buffer → next ≡ withAccount r i account → Gives r bytes buffer answer next left
 unfolding callOf
 call-gives r bytes buffer x i answer account next left q e a g b n =
-    let whole : callOf r bytes buffer ≡ putting r i (sentTo (accountAt r i) x buffer) = rw (← q, e) (reading-put r buffer x) in
-    (a ∙ sym (ap (λ (s : Result). s .answer) whole), n ∙ ap (withAccount r i) (g ∙ ap (accountAt (sentTo (accountAt r i) x buffer .register)) (sym e)) ∙ sym (ap (λ (s : Result). s .register) whole), b ∙ sym (ap (λ (s : Result). s .buffer) whole))
+    let whole : callOf r bytes buffer ≡ putting r i (sentTo (accountAt r i) x buffer) = rw (← q, e) (reading-put r buffer x) in (
+      a ∙ sym (ap (λ (s : Result). s .answer) whole),
+      n ∙ ap (withAccount r i) (g ∙ ap (accountAt (sentTo (accountAt r i) x buffer .register)) (sym e)) ∙ sym (ap (λ (s : Result). s .register) whole),
+      b ∙ sym (ap (λ (s : Result). s .buffer) whole),
+    )

@@ -1,7 +1,6 @@
 -- A call of the register: message bytes and an entry buffer in; an answer, a register and the buffer out (document 01, "Bytes" and "Numbers given when a call is not taken").
 -- Assumes nothing.
 use Prim.Native.Nat.{ℕ}
-use mathlib.Core.Path.{_≡_}
 use mathlib.Core.Bool.{cond}
 use mathlib.Core.List.{List, [], _∷_}
 use mathlib.Core.Option.{Option, none, some}

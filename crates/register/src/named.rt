@@ -26,6 +26,7 @@ pub(crate) fn send(account: Account, reading: Reading, buffer: &mut [u8]) -> Ans
     if buffer.len() < entry::LONGEST_CALL {
         return refused(account, 4);
     }
+    // Each kind files its own step: of three steps made one value, the compiler takes the entries apart place by place.
     match message {
         Message::Request(heading, event) => {
             let called = account.request(heading.transaction, heading.second, event);
@@ -55,7 +56,7 @@ pub(crate) fn place_of(reading: Reading) -> usize
     }
 }
 
-// Files what the account of that number made of a message: its refusal, or its entries at the beginning of the buffer. Each kind of message has its own call of it, so that the entries lie where the account left them.
+// Files what the account of that number made of a message: its refusal, or its entries at the beginning of the buffer. A step that is refused hands back the account that came in.
 fn file(called: account::Called, number: u16, consumed: usize, buffer: &mut [u8]) -> Answered
     requires { ⌜ Fitting called number (now buffer) ⌝ }
     ensures { λ r. ⌜ (r .answer ≡ filedOf called number consumed (now (buffer .entry)) .answer) × (r .account ≡ called .account) × (now (buffer .exit) ≡ filedOf called number consumed (now (buffer .entry)) .buffer) ⌝ }

@@ -21,7 +21,8 @@ returns : tie.Need-returns
 returns c =
     let a = c .before .before .before .before .before .before .args in
     let told = c .before .before .enum-told2 .given in
-    step-refused (a .called) (a .number) (a .consumed) (a .buffer .now) (told .0 .0) (c .before .refusal-of-step .result) (c .refused .result) (told .1) (c .before .refusal-of-step .ensures) (c .refused .ensures)
+    step-refused (a .called) (a .number) (a .consumed) (a .buffer .now) (told .0 .0) (c .before .refusal-of-step .result) (c .refused .result)
+    (told .1) (c .before .refusal-of-step .ensures) (c .refused .ensures)
 
 write-entries-requires : tie.Need-write-entries-requires
 write-entries-requires c κs = search needs
@@ -55,7 +56,8 @@ returns-3 c =
     let a = start .args in
     let written = c .before .before .before .before .before .write-entries in
     let told = c .before .writing .given in
-    entries-filed (a .called) (a .number) (a .consumed) (a .buffer .now) (start .pre) (written .result) (told .0 .0) (written .last .1 .1 .0) (c .before .before .before .before .before .before .before .enum-told .given .1) (written .ensures .0) (told .1) (written .ensures .1)
+    entries-filed (a .called) (a .number) (a .consumed) (a .buffer .now) (start .pre) (written .result) (told .0 .0) (written .last .1 .1 .0)
+    (c .before .before .before .before .before .before .before .enum-told .given .1) (written .ensures .0) (told .1) (written .ensures .1)
 
 pub file-spec : {M : Type 1} → statement M
 file-spec =

@@ -42,7 +42,8 @@ file-requires c κs =
     let a = c .before .before .before .before .before .before .before .before .before .before .args in
     let read = c .before .before .before .before .before .before .before .reading .given in
     let stepped = c .before .request in
-    step-fits (a .account) (a .reading) (a .buffer .now) (read .0 .0) _ (read .0 .1 .0) (stepped .result) (read .1) (c .before .before .before .message .given .1) (c .before .before .before .before .before .if1 .left) (stepped .ensures)
+    step-fits (a .account) (a .reading) (a .buffer .now) (read .0 .0) _ (read .0 .1 .0) (stepped .result)
+    (read .1) (c .before .before .before .message .given .1) (c .before .before .before .before .before .if1 .left) (stepped .ensures)
 
 enum-known-message-2 : tie.Need-enum-known-message-2
 enum-known-message-2 c = search needs
@@ -55,7 +56,8 @@ file-requires-2 c κs =
     let a = c .before .before .before .before .before .before .before .before .before .before .args in
     let read = c .before .before .before .before .before .before .before .reading .given in
     let stepped = c .before .commit in
-    step-fits (a .account) (a .reading) (a .buffer .now) (read .0 .0) _ (read .0 .1 .0) (stepped .result) (read .1) (c .before .before .before .message2 .given .1) (c .before .before .before .before .before .if1 .left) (stepped .ensures)
+    step-fits (a .account) (a .reading) (a .buffer .now) (read .0 .0) _ (read .0 .1 .0) (stepped .result)
+    (read .1) (c .before .before .before .message2 .given .1) (c .before .before .before .before .before .if1 .left) (stepped .ensures)
 
 enum-known-message-3 : tie.Need-enum-known-message-3
 enum-known-message-3 c = search needs
@@ -68,7 +70,8 @@ file-requires-3 c κs =
     let a = c .before .before .before .before .before .before .before .before .before .before .args in
     let read = c .before .before .before .before .before .before .before .reading .given in
     let stepped = c .before .abort in
-    step-fits (a .account) (a .reading) (a .buffer .now) (read .0 .0) _ (read .0 .1 .0) (stepped .result) (read .1) (c .before .before .before .message3 .given .1) (c .before .before .before .before .before .if1 .left) (stepped .ensures)
+    step-fits (a .account) (a .reading) (a .buffer .now) (read .0 .0) _ (read .0 .1 .0) (stepped .result)
+    (read .1) (c .before .before .before .message3 .given .1) (c .before .before .before .before .before .if1 .left) (stepped .ensures)
 
 same-length : tie.Need-same-length
 same-length c = search needs
@@ -79,7 +82,8 @@ returns-3 c =
     let read = c .before .before .before .before .before .before .before .before .before .before .reading .given in
     let stepped = c .before .before .before .before .request in
     let filed = c .before .before .file in
-    step-sent (a .account) (a .reading) (a .buffer .now) (read .0 .0) _ (read .0 .1 .0) (stepped .result) (read .1) (c .before .before .before .before .before .before .message .given .1) (c .before .before .before .before .before .before .before .before .if1 .left) (stepped .ensures) (filed .result) (filed .last .1 .1 .1 .0) (filed .ensures)
+    step-sent (a .account) (a .reading) (a .buffer .now) (read .0 .0) _ (read .0 .1 .0) (stepped .result)
+    (read .1) (c .before .before .before .before .before .before .message .given .1) (c .before .before .before .before .before .before .before .before .if1 .left) (stepped .ensures) (filed .result) (filed .last .1 .1 .1 .0) (filed .ensures)
 
 same-length-2 : tie.Need-same-length-2
 same-length-2 c = search needs
@@ -90,7 +94,8 @@ returns-4 c =
     let read = c .before .before .before .before .before .before .before .before .before .before .reading .given in
     let stepped = c .before .before .before .before .commit in
     let filed = c .before .before .file2 in
-    step-sent (a .account) (a .reading) (a .buffer .now) (read .0 .0) _ (read .0 .1 .0) (stepped .result) (read .1) (c .before .before .before .before .before .before .message2 .given .1) (c .before .before .before .before .before .before .before .before .if1 .left) (stepped .ensures) (filed .result) (filed .last .1 .1 .1 .0) (filed .ensures)
+    step-sent (a .account) (a .reading) (a .buffer .now) (read .0 .0) _ (read .0 .1 .0) (stepped .result)
+    (read .1) (c .before .before .before .before .before .before .message2 .given .1) (c .before .before .before .before .before .before .before .before .if1 .left) (stepped .ensures) (filed .result) (filed .last .1 .1 .1 .0) (filed .ensures)
 
 same-length-3 : tie.Need-same-length-3
 same-length-3 c = search needs
@@ -101,7 +106,8 @@ returns-5 c =
     let read = c .before .before .before .before .before .before .before .before .before .before .reading .given in
     let stepped = c .before .before .before .before .abort in
     let filed = c .before .before .file3 in
-    step-sent (a .account) (a .reading) (a .buffer .now) (read .0 .0) _ (read .0 .1 .0) (stepped .result) (read .1) (c .before .before .before .before .before .before .message3 .given .1) (c .before .before .before .before .before .before .before .before .if1 .left) (stepped .ensures) (filed .result) (filed .last .1 .1 .1 .0) (filed .ensures)
+    step-sent (a .account) (a .reading) (a .buffer .now) (read .0 .0) _ (read .0 .1 .0) (stepped .result)
+    (read .1) (c .before .before .before .before .before .before .message3 .given .1) (c .before .before .before .before .before .before .before .before .if1 .left) (stepped .ensures) (filed .result) (filed .last .1 .1 .1 .0) (filed .ensures)
 
 pub send-spec : {M : Type 1} → statement M
 send-spec =
