@@ -60,7 +60,7 @@ const TOLD: usize = 2;
 /// Compares the subject's programs with the model, as planned.
 pub fn compare(subject: &dyn Subject, plan: &Plan) -> Found {
     let mut found = Found::default();
-    let targets: Vec<Target> = Target::BOTH.into_iter().filter(|target| subject.has(*target)).collect();
+    let targets: Vec<Target> = Target::ALL.into_iter().filter(|target| subject.has(*target)).collect();
     found.tallies = targets.iter().map(|target| (*target, Tally::default())).collect();
     compare_examples(subject, &targets, plan, &mut found);
     compare_unread(subject, &targets, &mut found);

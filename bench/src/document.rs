@@ -27,6 +27,20 @@ applied 3 0 100 withdraw 60 40
 end 6 0
 ";
 
+/// The sample's messages, and the bytes of its entries as hex.
+const SAMPLE_MESSAGES: &str = "open 1 100, commit 1, withdraw 2 60, withdraw 3 60, abort 2, commit 3";
+const SAMPLE_ENTRIES: [&str; 9] = [
+    "110000000100000000006401000000640001",
+    "1400000001000000000064",
+    "1500000001000000000064010000006400000064",
+    "1100000002000000000064020000003c0001",
+    "1300000003000000000064020000003c0002",
+    "1600000002000000000064020000003c",
+    "1100000003000000000064020000003c0001",
+    "1400000003000000000064",
+    "1500000003000000000064020000003c00000028",
+];
+
 /// States that the cases start from.
 const HUNDRED: &str = "open 1 100, commit 1";
 const SIXTY: &str = "open 1 100, commit 1, withdraw 2 60";
@@ -77,8 +91,7 @@ const WEIGHED: [(&str, &str, &str, &str); 25] = [
 
 /// Every example.
 pub fn examples() -> Vec<Example> {
-    let sample = "open 1 100, commit 1, withdraw 2 60, withdraw 3 60, abort 2, commit 3";
-    let mut examples = vec![told("the sample", sample, SAMPLE)];
+    let mut examples = vec![told("the sample", SAMPLE_MESSAGES, SAMPLE)];
     examples.extend(WEIGHED.iter().map(weighed));
     examples.push(told("case 6", &join(FORTY, "commit 3"), "withdraw 40 2\nnoted 3 0 100\nend 5 0\n"));
     let settled = "noted 3 0 100\ndropped 2 0 100 withdraw 60\napplied 3 0 100 withdraw 40 60\nend 6 0\n";
@@ -92,7 +105,27 @@ pub fn examples() -> Vec<Example> {
     examples.push(asked("case 6", &join(FORTY, "commit 3"), 3, &format!("{outcomes}end 8\n")));
     examples.push(rooms());
     examples.extend(lengths());
+    examples.push(run("the sample", SAMPLE_MESSAGES, 465, "6 0 78 150", &SAMPLE_ENTRIES.concat()));
+    examples.push(run("case 10", "open 1 7", 314, "1 1 15 0", ""));
+    examples.push(run("case 10", "open 1 7", 315, "1 0 15 18", "110000000100000000006401000000070001"));
+    examples.push(run("no input", "", 0, "0 0 0 0", ""));
     examples
+}
+
+/// Messages to the exported call with so much room: the four counts, the last of which it returns, and the entries as
+/// hex; the rest of the buffer stays as it was in the second run.
+fn run(name: &'static str, words: &str, room: usize, counts: &str, entries: &str) -> Example {
+    let head = [&(room as u32).to_be_bytes()[1..], &[4]].concat();
+    let input = [head, messages(words).concat()].concat();
+    let mut buffer = entries.to_string() + &"5a".repeat(room - entries.len() / 2);
+    let written = counts.rsplit(' ').next().unwrap_or_default();
+    let mut ends_in = format!("returned {written}\ncounts {counts}\nkept\n");
+    while !buffer.is_empty() {
+        let after = buffer.split_off(buffer.len().min(64));
+        ends_in += &format!("{buffer}\n");
+        buffer = after;
+    }
+    Example { name, target: Target::Exported, input, ends_in: ends_in + "end\n" }
 }
 
 /// The longest input that is processed, and one byte more.

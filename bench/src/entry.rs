@@ -33,6 +33,9 @@ pub struct Entry {
 }
 
 impl Entry {
+    /// What stands in a place for an entry that has none.
+    pub const BLANK: Entry = Entry { transaction: 0, second: 0, says: Says::Noted };
+
     /// The kind, 17 to 22.
     pub fn kind(&self) -> u8 {
         match self.says {
@@ -60,6 +63,13 @@ impl Entry {
             Says::Applied(_, balance) => Some(balance),
             Says::Noted | Says::Dropped(_) => None,
         }
+    }
+
+    /// What the kind has of event kind, amount, outcomes and balance, each behind the separator.
+    pub fn numbers(&self, separator: char) -> String {
+        let event = self.event().map(|event| [u32::from(event.kind()), event.amount()]);
+        let all = event.into_iter().flatten().chain(self.last());
+        all.map(|number| format!("{separator}{number}")).collect()
     }
 
     /// The bytes of the layout.

@@ -86,4 +86,13 @@ faults! {
     RefusedNotMet: "a refused message is not counted among those met",
     StopNotCounted: "a refusal that stops reading is not counted",
     SkipsFifteen: "a refused message is skipped by 15 bytes",
+    OrderWithoutHeld: "the order question leaves out the oldest held request",
+    LineOfEntryAlone: "an entry's line of text is given only where no byte follows the entry",
+    RefusedStepCounts: "a refused step counts an entry",
+    StepLeavesAccount: "the register goes on with the account as it was before a step",
+    StopsWithoutRoom: "a run stops where too little room is left",
+    SkippedNotPassed: "a run does not count the bytes of a refused message as passed",
+    NextByteTouched: "a run touches the byte after its entries",
+    RegisterKept: "a run goes on with the register of the run before it",
+    FourPlacesOrNone: "the counts of a run are stored only where there are four places",
 }

@@ -4,10 +4,11 @@
 //! and halves or doubles it, so it shares no walk and no array of places with
 //! the proved register; the two meet in bytes and text alone.
 
-// The model: document 01, and page 6 for the probe.
+// The model: document 01, and its page for the probe.
 pub mod account;
 pub mod entry;
 pub mod event;
+pub mod exported;
 pub mod fault;
 pub mod image;
 pub mod message;
@@ -16,11 +17,13 @@ pub mod probe;
 pub mod program;
 pub mod register;
 pub mod rules;
+pub mod run;
 
 // The comparison.
 pub mod compare;
 pub mod document;
 pub mod random;
+pub mod reached;
 pub mod readable;
 pub mod report;
 pub mod shrink;

@@ -1,8 +1,8 @@
 //! Timing: the same stream through each version in turn, round after round.
 
 use crate::proved;
-use crate::register::{self, Run};
-use crate::rules::{Rules, ROOM};
+use crate::rules::Rules;
+use crate::run::{self, room, Run};
 use std::hint::black_box;
 use std::time::Instant;
 
@@ -42,17 +42,12 @@ impl Runner {
     /// Runs the messages; `room` is for those that write where they are told.
     pub fn run(self, messages: &[u8], room: &mut [u8]) -> Run {
         match self {
-            Runner::Independent => register::run(messages, Rules::DOCUMENT),
-            Runner::Judged => register::run(messages, Rules { judged: true, ..Rules::DOCUMENT }),
-            Runner::OneAtATime => register::run(messages, Rules { places: 1, ..Rules::DOCUMENT }),
+            Runner::Independent => run::run(messages, Rules::DOCUMENT),
+            Runner::Judged => run::run(messages, Rules { judged: true, ..Rules::DOCUMENT }),
+            Runner::OneAtATime => run::run(messages, Rules { places: 1, ..Rules::DOCUMENT }),
             Runner::Proved => proved::run(messages, room),
         }
     }
-}
-
-/// Room enough for the entries of a stream.
-pub fn room(messages: &[u8]) -> Vec<u8> {
-    vec![0; 2 * ROOM + messages.len() * 4]
 }
 
 /// Nanoseconds a message of each version in its fastest round; the versions take turns.
@@ -74,7 +69,7 @@ pub fn times(messages: &[u8], runners: &[Runner], rounds: usize) -> Vec<f64> {
 /// Whether the versions under document 01's rules agree on the stream, and no version refuses any of it.
 pub fn agree(messages: &[u8], runners: &[Runner]) -> bool {
     let mut room = room(messages);
-    let right = register::run(messages, Rules::DOCUMENT);
+    let right = run::run(messages, Rules::DOCUMENT);
     runners.iter().all(|runner| {
         let run = runner.run(messages, &mut room);
         run.met == right.met && run.refused == 0 && (run.entries == right.entries || *runner == Runner::OneAtATime)

@@ -1,10 +1,10 @@
 //! The proved register, linked as a static library where the feature `proved` is on.
 //!
 //! `rt staticlib register` gives `target/staticlib/libregister.a`; build with
-//! `RUSTFLAGS='-L native=target/staticlib' cargo build --release --features proved`.
+//! `cargo build --release --features proved` (`build.rs` says where the library is).
 //! The exported function is declared here and nowhere else.
 
-use crate::register::Run;
+use crate::run::Run;
 
 /// Whether the proved register is linked.
 pub const LINKED: bool = cfg!(feature = "proved");
@@ -24,29 +24,34 @@ extern "C" {
     ) -> u64;
 }
 
-/// The run of messages by the proved register; it writes into the room lent.
+/// The exported call: the length of the entries written, as it returns it.
 #[cfg(feature = "proved")]
-pub fn run(messages: &[u8], room: &mut [u8]) -> Run {
-    let mut counts = [0u64; 4];
+pub fn call(messages: &[u8], entries: &mut [u8], counts: &mut [u64]) -> u64 {
     // Each pointer goes with the length of the slice that it is taken from; the function
     // keeps none of them after it returns.
     unsafe {
         nacozteya_run(
             messages.as_ptr(),
             messages.len(),
-            room.as_mut_ptr(),
-            room.len(),
+            entries.as_mut_ptr(),
+            entries.len(),
             counts.as_mut_ptr(),
             counts.len(),
-        );
+        )
     }
-    let [met, refused, _consumed, written] = counts;
-    let written = room.len().min(written as usize);
-    Run { met, refused, entries: room[..written].to_vec() }
 }
 
 /// Without the feature nothing is linked and nothing is run.
 #[cfg(not(feature = "proved"))]
-pub fn run(_: &[u8], _: &mut [u8]) -> Run {
-    Run::default()
+pub fn call(_: &[u8], _: &mut [u8], _: &mut [u64]) -> u64 {
+    0
+}
+
+/// The run of messages by the proved register; it writes into the room lent.
+pub fn run(messages: &[u8], room: &mut [u8]) -> Run {
+    let mut counts = [0u64; 4];
+    call(messages, room, &mut counts);
+    let [met, refused, _consumed, written] = counts;
+    let written = room.len().min(written as usize);
+    Run { met, refused, entries: room[..written].to_vec() }
 }

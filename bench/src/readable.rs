@@ -1,17 +1,19 @@
 //! Streams in readable form, piece by piece: a piece is a message or a frame.
 
+use crate::exported::{asked, HEAD};
 use crate::message::{self, Message};
 use crate::probe::{hex, split};
 use crate::rules::Rules;
 use crate::subject::Target;
 
-/// The messages or frames of a stream, and as the last piece what is neither.
+/// The messages or frames of a stream, and as the last piece what is neither; a run's head is its first piece.
 pub fn pieces(target: Target, bytes: &[u8]) -> Vec<Vec<u8>> {
     let mut pieces = Vec::new();
     let mut rest = bytes;
     while !rest.is_empty() {
         let length = match target {
-            Target::Program => message::length(rest[0]).filter(|length| *length <= rest.len()),
+            Target::Exported if pieces.is_empty() => Some(HEAD.min(rest.len())),
+            Target::Program | Target::Exported => message::length(rest[0]).filter(|length| *length <= rest.len()),
             Target::Probe => split(rest).map(|(_, payload, _)| 3 + payload.len()),
         };
         let (piece, after) = rest.split_at(length.unwrap_or(rest.len()));
@@ -24,7 +26,11 @@ pub fn pieces(target: Target, bytes: &[u8]) -> Vec<Vec<u8>> {
 /// A line for a piece.
 pub fn line(target: Target, piece: &[u8]) -> String {
     match target {
-        Target::Program => message_line(piece),
+        Target::Exported if piece.len() <= HEAD => {
+            let (room, places, _) = asked(piece);
+            format!("run, room {room}, {places} places for counts")
+        }
+        Target::Program | Target::Exported => message_line(piece),
         Target::Probe => match split(piece) {
             Some((code, payload, _)) => frame_line(code, payload),
             None => format!("torn {}", shortened(piece)),
@@ -62,6 +68,9 @@ fn frame_line(code: u8, payload: &[u8]) -> String {
         (5, 8) => disturb_line(&mut numbers),
         (6, 2) => format!("show account {}", numbers.next(2)),
         (7, _) => format!("read entry: bytes {}", shortened(payload)),
+        (64, 2) => format!("order of account {}", numbers.next(2)),
+        (67, _) => format!("line of text: bytes {}", shortened(payload)),
+        (68, 15) => step_line(&mut numbers),
         _ => format!("frame {code}: bytes {}", shortened(payload)),
     }
 }
@@ -73,6 +82,14 @@ fn write_line(numbers: &mut message::Numbers) -> String {
     let (second, amount) = (numbers.next(4), numbers.next(4));
     let message = Message { kind, transaction, account, second, amount };
     format!("write message, room {}: {}", numbers.next(2), message_line(&message.bytes(&Rules::DOCUMENT)))
+}
+
+/// Frame 68 in words.
+fn step_line(numbers: &mut message::Numbers) -> String {
+    let (account, kind) = (numbers.next(2) as u16, numbers.next(1) as u8);
+    let (transaction, second, amount) = (numbers.next(4), numbers.next(4), numbers.next(4));
+    let message = Message { kind, transaction, account, second, amount };
+    format!("single step: {}", message_line(&message.bytes(&Rules::DOCUMENT)))
 }
 
 /// Frame 5 in words.

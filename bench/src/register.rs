@@ -1,4 +1,4 @@
-//! The register: sixteen accounts, the call, the outcome question, a run of calls.
+//! The register: sixteen accounts, the call, the single step, the outcome question.
 
 use crate::account::Account;
 use crate::entry::Entry;
@@ -64,26 +64,31 @@ impl Register {
         let rules = self.rules;
         let (message, consumed) = message::read(bytes, &rules)?;
         let least = if rules.has(Fault::RoomOneShort) { ROOM - 1 } else { ROOM };
-        let at = usize::from(message.account);
-        let disturbed = !self.in_order(at);
-        if rules.has(Fault::OrderBeforeRoom) && disturbed {
+        if rules.has(Fault::OrderBeforeRoom) && !self.in_order(usize::from(message.account)) {
             return Err(5);
         }
         if room < least {
             return Err(4);
         }
-        if disturbed {
+        let entries = self.step(&message)?;
+        Ok(Taken { consumed, account: message.account, entries })
+    }
+
+    /// The single step of the account that a message names: its entries, or refusal 5 to 11.
+    pub fn step(&mut self, message: &Message) -> Result<Vec<Entry>, u8> {
+        let at = usize::from(message.account);
+        if !self.in_order(at) {
             return Err(5);
         }
-        if rules.has(Fault::NumberOfAllAccounts) && self.used_elsewhere(&message) {
+        if self.rules.has(Fault::NumberOfAllAccounts) && self.used_elsewhere(message) {
             return Err(6);
         }
-        let before = rules.has(Fault::FreedPlaceKept).then(|| self.image(at));
-        let entries = self.take_on(at, &message)?;
+        let before = self.rules.has(Fault::FreedPlaceKept).then(|| self.image(at));
+        let entries = self.take_on(at, message)?;
         if let Some(before) = before {
             self.leave_behind(at, &before);
         }
-        Ok(Taken { consumed, account: message.account, entries })
+        Ok(entries)
     }
 
     /// The message on its account. Only a wrong version takes it on one that is not in order.
@@ -116,7 +121,7 @@ impl Register {
     }
 
     /// Whether an account is in order; one that is known to be is judged anew only where the rules ask for it.
-    fn in_order(&self, at: usize) -> bool {
+    pub fn in_order(&self, at: usize) -> bool {
         match &self.accounts[at] {
             Kept::InOrder(account) => !self.rules.judged || order::in_order(&account.image(), &self.rules),
             Kept::Disturbed(image) => order::in_order(image, &self.rules),
@@ -165,37 +170,4 @@ impl Register {
             self.put(at, image);
         }
     }
-}
-
-/// What a run of messages gives: how many were met and refused, and the entries' bytes.
-#[derive(Clone, PartialEq, Eq, Debug, Default)]
-pub struct Run {
-    pub met: u64,
-    pub refused: u64,
-    pub entries: Vec<u8>,
-}
-
-/// Runs messages through a fresh register; a refusal 1 or 2 stops, others skip their message.
-pub fn run(messages: &[u8], rules: Rules) -> Run {
-    let mut register = Register::fresh(rules);
-    let mut run = Run::default();
-    let mut buffer = [0; ROOM];
-    let mut at = 0;
-    while at < messages.len() {
-        run.met += 1;
-        match register.call(&messages[at..], &mut buffer) {
-            Ok((consumed, written)) => {
-                run.entries.extend_from_slice(&buffer[..written]);
-                at += consumed;
-            }
-            Err(number) => {
-                run.refused += 1;
-                match message::length(messages[at]) {
-                    Some(length) if number > 2 => at += length,
-                    _ => break,
-                }
-            }
-        }
-    }
-    run
 }

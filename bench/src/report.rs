@@ -4,6 +4,7 @@ use crate::compare::{Difference, Found};
 use crate::probe::hex;
 use crate::readable::{line, pieces};
 use crate::tally::Tally;
+use std::collections::BTreeMap;
 
 /// Prints the counts, the differences and the last line; says whether nothing failed.
 pub fn print(found: &Found) -> bool {
@@ -30,18 +31,25 @@ pub fn print(found: &Found) -> bool {
 
 /// Prints the counts of one program's streams.
 fn print_tally(tally: &Tally) {
-    let lines: Vec<String> = tally.lines.iter().map(|(word, count)| format!("{word} {count}")).collect();
-    println!("  lines      {}", lines.join(", "));
-    let refusals: Vec<String> = tally.refusals.iter().map(|(number, count)| format!("{number}: {count}")).collect();
-    println!("  refusals   {}", refusals.join(", "));
-    let outcomes: Vec<String> = tally.outcomes.iter().map(|(number, count)| format!("{number}: {count}")).collect();
-    println!("  outcomes   {}", outcomes.join(", "));
+    print_counts("lines", &tally.lines);
+    print_counts("refusals", &tally.refusals);
+    print_counts("outcomes", &tally.outcomes);
     println!("  balances   0: {}, 1000000: {}", tally.emptied, tally.filled);
     if tally.longest > 0 {
         println!("  calls of 315 bytes   {}", tally.longest);
     }
+    print_counts("frames from 64 on", &tally.later);
+    print_counts("runs", &tally.runs);
     for (clause, count) in &tally.alone {
         println!("  calls where only this is broken: {clause}   {count}");
+    }
+}
+
+/// Prints counts by their keys, where there are any.
+fn print_counts<K: std::fmt::Display>(name: &str, counts: &BTreeMap<K, u64>) {
+    if !counts.is_empty() {
+        let counts: Vec<String> = counts.iter().map(|(key, count)| format!("{key}: {count}")).collect();
+        println!("  {name:<10} {}", counts.join(", "));
     }
 }
 

@@ -1,28 +1,30 @@
 //! What is compared with the model: the built programs, or a version of the model itself.
 
 use crate::rules::Rules;
-use crate::{probe, program};
+use crate::{exported, probe, program};
 use std::io::{Read, Write};
 use std::process::{Child, Command, ExitStatus, Stdio};
 use std::sync::mpsc::channel;
 use std::thread;
 use std::time::Duration;
 
-/// The two programs that read bytes and print text.
+/// The programs that read bytes and print text; the last makes the exported call.
 #[derive(Clone, Copy, PartialEq, Eq, Debug)]
 pub enum Target {
     Program,
     Probe,
+    Exported,
 }
 
 impl Target {
-    pub const BOTH: [Target; 2] = [Target::Program, Target::Probe];
+    pub const ALL: [Target; 3] = [Target::Program, Target::Probe, Target::Exported];
 
     /// The name in reports.
     pub fn name(self) -> &'static str {
         match self {
             Target::Program => "program",
             Target::Probe => "probe",
+            Target::Exported => "exported",
         }
     }
 
@@ -31,11 +33,12 @@ impl Target {
         match self {
             Target::Program => program::text(input, rules),
             Target::Probe => probe::text(input, rules),
+            Target::Exported => exported::text(input, rules),
         }
     }
 }
 
-/// Something that answers as the two programs do, or as one of them.
+/// Something that answers as the programs do, or as some of them.
 pub trait Subject {
     /// Whether it has this program.
     fn has(&self, target: Target) -> bool;
@@ -67,6 +70,7 @@ impl Subject for Version {
 pub struct Built {
     pub program: Vec<String>,
     pub probe: Vec<String>,
+    pub exported: Vec<String>,
 }
 
 /// How long a built program may take for one stream.
@@ -83,6 +87,9 @@ impl Subject for Built {
     }
 
     fn answer_unread(&self, target: Target) -> Option<Result<Vec<u8>, String>> {
+        if target == Target::Exported {
+            return None;
+        }
         // A folder can be opened, and every read of it fails.
         let folder = std::fs::File::open("/").ok()?;
         let child = self.start(target, Stdio::from(folder));
@@ -93,7 +100,7 @@ impl Subject for Built {
 impl Built {
     /// How a program that is given cannot be started, if so.
     pub fn obstacle(&self) -> Option<String> {
-        let given = Target::BOTH.into_iter().filter(|target| self.has(*target));
+        let given = Target::ALL.into_iter().filter(|target| self.has(*target));
         given.map(|target| self.start(target, Stdio::null())).find_map(|started| match started {
             Ok(mut child) => {
                 let _ = child.kill();
@@ -116,6 +123,7 @@ impl Built {
         match target {
             Target::Program => &self.program,
             Target::Probe => &self.probe,
+            Target::Exported => &self.exported,
         }
     }
 }

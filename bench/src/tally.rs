@@ -1,11 +1,13 @@
 //! What the streams of a run reached, counted from the model's text.
 
 use crate::entry::{self, Entry, Says};
-use crate::message;
-use crate::order::{broken, Clause};
-use crate::probe::split;
+use crate::exported::asked;
+use crate::image::Image;
+use crate::order::broken;
+use crate::probe::{answer, split};
 use crate::register::Register;
-use crate::rules::{Rules, LIMIT, ROOM};
+use crate::rules::{Rules, LIMIT, LONGEST, ROOM};
+use crate::run::pass;
 use crate::subject::Target;
 use std::collections::BTreeMap;
 
@@ -25,6 +27,10 @@ pub struct Tally {
     pub longest: u64,
     /// Calls on an account that breaks one clause of order and no other.
     pub alone: BTreeMap<&'static str, u64>,
+    /// Answers to the frames from 64 on, by code and first words.
+    pub later: BTreeMap<String, u64>,
+    /// Runs by what they are lent, and those in which the room runs out.
+    pub runs: BTreeMap<String, u64>,
 }
 
 impl Tally {
@@ -32,25 +38,85 @@ impl Tally {
     pub fn add(&mut self, target: Target, input: &[u8], text: &str) {
         self.streams += 1;
         self.bytes += input.len() as u64;
-        for line in text.lines() {
-            let words: Vec<&str> = line.split(' ').collect();
-            *self.lines.entry(words[0].to_string()).or_default() += 1;
-            match (target, words[0]) {
-                (_, "refused") => *self.refusals.entry(number(words[1])).or_default() += 1,
-                (Target::Program, "accepted" | "rejected" | "held") => self.weighed(number(words[6])),
-                (Target::Program, "applied") => self.applied(words[4], number(words[6])),
-                (Target::Probe, "taken") => self.written(words[3]),
-                _ => {}
-            }
-        }
-        if target == Target::Probe {
-            self.add_alone(input);
+        match target {
+            Target::Program => text.lines().for_each(|line| self.add_line(target, line)),
+            Target::Probe => self.add_frames(input, text),
+            Target::Exported => self.add_run(input),
         }
     }
 
-    /// Counts a vote's outcomes.
-    fn weighed(&mut self, outcomes: u32) {
-        *self.outcomes.entry(outcomes).or_default() += 1;
+    /// Counts a line of the program, or of a frame below 64.
+    fn add_line(&mut self, target: Target, line: &str) {
+        let words: Vec<&str> = line.split(' ').collect();
+        count(&mut self.lines, words[0].to_string());
+        match (target, words[0]) {
+            (_, "refused") => count(&mut self.refusals, number(words[1])),
+            (Target::Program, "accepted" | "rejected" | "held") => count(&mut self.outcomes, number(words[6])),
+            (Target::Program, "applied") => self.applied(words[4], number(words[6])),
+            (Target::Probe, "taken") => self.written(words[3]),
+            _ => {}
+        }
+    }
+
+    /// Counts the lines of frames, each with the register that its frame left.
+    fn add_frames(&mut self, input: &[u8], text: &str) {
+        let mut register = Register::fresh(Rules::DOCUMENT);
+        let mut rest = if input.len() > LONGEST { &[] } else { input };
+        for line in text.lines().skip(1) {
+            let Some((code, payload, after)) = split(rest) else {
+                self.add_line(Target::Probe, line);
+                continue;
+            };
+            rest = after;
+            answer(&mut register, code, payload, &Rules::DOCUMENT);
+            match code {
+                64 | 67 | 68 => self.add_later(code, line),
+                _ => self.add_line(Target::Probe, line),
+            }
+            if code == 1 && line.starts_with("refused 5") {
+                self.add_alone(&register.image(usize::from(payload[8])));
+            }
+        }
+    }
+
+    /// Counts a line of a frame from 64 on: orders and steps with the word or number behind the first.
+    fn add_later(&mut self, code: u8, line: &str) {
+        let words = if code == 67 { 1 } else { 2 };
+        let first: Vec<&str> = line.split(' ').take(words).collect();
+        count(&mut self.later, format!("{code} {}", first.join(" ")));
+    }
+
+    /// Counts a refused call on an account that breaks one clause and no other.
+    fn add_alone(&mut self, image: &Image) {
+        if let [clause] = broken(image)[..] {
+            count(&mut self.alone, clause.says());
+        }
+    }
+
+    /// Counts a run: what it is lent, its refusals and its entries.
+    fn add_run(&mut self, input: &[u8]) {
+        let (room, places, messages) = asked(input);
+        count(&mut self.runs, format!("{places} places"));
+        count(&mut self.runs, room_name(room).to_string());
+        let mut register = Register::fresh(Rules::DOCUMENT);
+        let (mut left, mut short) = (room, false);
+        pass(messages, &Rules::DOCUMENT, |rest| {
+            let taken = register.take(rest, left).inspect_err(|number| {
+                count(&mut self.refusals, u32::from(*number));
+                short |= *number == 4;
+            })?;
+            for entry in &taken.entries {
+                self.entry(entry);
+                left -= entry.bytes(taken.account).len();
+            }
+            Ok(taken.consumed)
+        });
+        if messages.is_empty() {
+            count(&mut self.runs, "no message".to_string());
+        }
+        if short && left < room {
+            count(&mut self.runs, "room that runs out".to_string());
+        }
     }
 
     /// Counts a balance at either end.
@@ -74,69 +140,28 @@ impl Tally {
     fn entry(&mut self, entry: &Entry) {
         let line = entry.line(0);
         let name = line.split(' ').next().unwrap_or_default();
-        *self.lines.entry(name.to_string()).or_default() += 1;
+        count(&mut self.lines, name.to_string());
         match entry.says {
-            Says::Voted(_, _, outcomes) => self.weighed(u32::from(outcomes)),
+            Says::Voted(_, _, outcomes) => count(&mut self.outcomes, u32::from(outcomes)),
             Says::Applied(event, balance) => self.applied(event.name(), balance),
             _ => {}
         }
     }
+}
 
-    /// Counts the calls of the frames that meet an account with one clause broken.
-    fn add_alone(&mut self, input: &[u8]) {
-        let mut register = Register::fresh(Rules::DOCUMENT);
-        let mut rest = input;
-        while let Some((code, payload, after)) = split(rest) {
-            rest = after;
-            match (code, payload.len()) {
-                (1, 2..) => self.call_alone(&mut register, payload),
-                (5, 8) if payload[0] == 0 && payload[1] < 16 => {
-                    let at = usize::from(payload[1]);
-                    let mut image = register.image(at);
-                    let mut numbers = message::Numbers { bytes: &payload[4..] };
-                    if image.disturb(payload[2], payload[3], numbers.next(4)) {
-                        register.put(at, image);
-                    }
-                }
-                _ => {}
-            }
-        }
-    }
+/// Counts one more under a key.
+fn count<K: Ord>(counts: &mut BTreeMap<K, u64>, key: K) {
+    *counts.entry(key).or_default() += 1;
+}
 
-    /// Counts one such call, and goes on by it.
-    fn call_alone(&mut self, register: &mut Register, payload: &[u8]) {
-        let room = usize::from(payload[0]) << 8 | usize::from(payload[1]);
-        if room <= crate::probe::WIDEST && register.take(&payload[2..], room).is_err_and(|number| number == 5) {
-            let image = register.image(usize::from(payload[8]));
-            if let [clause] = broken(&image)[..] {
-                *self.alone.entry(clause.says()).or_default() += 1;
-            }
-        }
-    }
-
-    /// What the streams of a run should have reached and did not.
-    pub fn lacking(&self, target: Target) -> Vec<String> {
-        let both = ["accepted", "rejected", "held", "noted", "applied", "dropped", "refused", "end", "too"];
-        let probe = ["taken", "outcome", "message", "written", "set", "account", "entry", "none", "unknown", "torn"];
-        let refusals: &[u32] = match target {
-            Target::Program => &[1, 2, 3, 6, 7, 8, 9, 10, 11],
-            Target::Probe => &[1, 2, 3, 4, 5, 6, 7, 8, 9, 10, 11, 12],
-        };
-        let only_probe = target == Target::Probe;
-        let words = both.iter().chain(probe.iter().filter(|_| only_probe));
-        let mut checks: Vec<(String, bool)> =
-            words.map(|word| (format!("line {word}"), self.lines.contains_key(*word))).collect();
-        checks.extend(refusals.iter().map(|n| (format!("refusal {n}"), self.refusals.contains_key(n))));
-        let counts = (0..=7).map(|u| 1 << u).chain([0]);
-        checks.extend(counts.map(|n| (format!("{n} outcomes"), self.outcomes.contains_key(&n))));
-        checks.push(("a balance of 0".into(), self.emptied > 0));
-        checks.push(("a balance of 1,000,000".into(), self.filled > 0));
-        if only_probe {
-            checks.push(("a call of 315 bytes".into(), self.longest > 0));
-            let clauses = Clause::ALL.iter().map(|clause| clause.says());
-            checks.extend(clauses.map(|says| (format!("broken alone: {says}"), self.alone.contains_key(says))));
-        }
-        checks.into_iter().filter(|check| !check.1).map(|check| check.0).collect()
+/// On which side of a call's room a room stands.
+fn room_name(room: usize) -> &'static str {
+    match room {
+        0 => "room 0",
+        1..=313 => "room below 314",
+        314 => "room 314",
+        315 => "room 315",
+        _ => "room above 315",
     }
 }
 

@@ -3,8 +3,8 @@
 use independent::contention::{simulate, Outcome, Pattern, Setting};
 use independent::entry;
 use independent::measure::{agree, Runner};
-use independent::register::run;
 use independent::rules::Rules;
+use independent::run::run;
 use independent::workload::{accepted, steady, undecided, IN_PROGRESS};
 
 /// The counts of outcomes weighed, in the order of the votes.

@@ -8,17 +8,17 @@ use independent::subject::{Target, Version};
 /// Streams of each program that may pass before a fault has to be found.
 const MOST: u64 = 120;
 
-/// Lists each fault with the number of streams until the program's and the probe's streams show it.
+/// Lists each fault with the number of streams of each target until they show it.
 #[test]
 fn every_fault_is_found() {
     let faults = Fault::all();
     let mut missed = Vec::new();
-    println!("streams until found (program, probe)");
+    println!("streams until found (program, probe, exported call)");
     for fault in &faults {
-        let counts = Target::BOTH.map(|target| streams_until(*fault, target, 1, MOST));
+        let counts = Target::ALL.map(|target| streams_until(*fault, target, 1, MOST));
         let shown = counts.map(|count| count.map_or("-".to_string(), |count| count.to_string()));
-        println!("{:>4} {:>4}  {}", shown[0], shown[1], fault.says());
-        if counts == [None, None] {
+        println!("{:>4} {:>4} {:>4}  {}", shown[0], shown[1], shown[2], fault.says());
+        if counts == [None; 3] {
             missed.push(*fault);
         }
     }
@@ -33,7 +33,7 @@ fn the_right_version_passes() {
     let mut found = compare(&Version(Rules::DOCUMENT), &plan);
     found.count_reached();
     assert_eq!((found.failed, found.lacking.len()), (0, 0));
-    assert!(found.passed > 240);
+    assert!(found.passed > 360);
 }
 
 /// A wrong version is told with a stream of a few pieces.

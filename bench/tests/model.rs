@@ -61,7 +61,7 @@ fn judged_calls_agree() {
 /// Few streams reach every vote, refusal, count and clause.
 #[test]
 fn streams_reach_everything() {
-    for target in Target::BOTH {
+    for target in Target::ALL {
         let mut tally = Tally::default();
         for number in 0..150 {
             let stream = stream(target, 1, number);

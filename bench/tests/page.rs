@@ -149,6 +149,86 @@ fn entries() {
     assert_eq!(answers, expected);
 }
 
+/// Frame 67.
+#[test]
+fn lines_of_text() {
+    let answers = lines(&[
+        (67, &[]),
+        (67, &[20, 0, 0, 0, 1, 0, 2, 0, 0, 0, 3, 8]),
+        (67, &[18, 0, 0, 0, 1, 0, 15, 0, 0, 0, 3, 2, 0, 0, 0, 9, 0, 128]),
+        (67, &[21, 0, 0, 0, 1, 0, 2, 0, 0, 0, 3, 4, 0, 0, 0, 0, 255, 255, 255, 255]),
+        (67, &[22, 0, 0, 0, 1, 0, 2, 0, 0, 0, 3, 3, 0, 0, 0, 7]),
+        (67, &[22, 0, 0, 0, 1, 0, 16, 0, 0, 0, 3, 3, 0, 0, 0, 7]),
+        (67, &[22, 0, 0, 0, 1, 0, 2, 0, 0, 0, 3, 4, 0, 0, 0, 7]),
+    ]);
+    let expected = [
+        "none",
+        "noted 1 2 3",
+        "rejected 1 15 3 withdraw 9 128",
+        "applied 1 2 3 close 0 4294967295",
+        "dropped 1 2 3 deposit 7",
+        "none",
+        "none",
+    ];
+    assert_eq!(answers, expected);
+}
+
+/// Frames 64 and 68; the amount of a Close and of a commit is not looked at.
+#[test]
+fn orders_and_steps() {
+    let answers = lines(&[
+        (64, &[0, 3]),
+        (68, &[0, 3, 1, 0, 0, 0, 1, 0, 0, 0, 2, 0, 0, 0, 5]),
+        (68, &[0, 3, 2, 0, 0, 0, 2, 0, 0, 0, 3, 0, 0, 0, 4]),
+        (68, &[0, 3, 2, 0, 0, 0, 2, 0, 0, 0, 3, 0, 0, 0, 4]),
+        (68, &[0, 3, 5, 0, 0, 0, 1, 0, 0, 0, 7, 9, 9, 9, 9]),
+        (68, &[0, 3, 6, 0, 0, 0, 2, 0, 0, 0, 7, 9, 9, 9, 9]),
+        (68, &[0, 3, 4, 0, 0, 0, 0, 0, 0, 0, 0, 9, 9, 9, 9]),
+        (68, &[0, 3, 5, 0, 0, 0, 0, 0, 0, 0, 0, 0, 0, 0, 0]),
+        (6, &[0, 3]),
+        (5, &[0, 3, 1, 0, 0, 0, 0, 1]),
+        (64, &[0, 3]),
+        (68, &[0, 3, 6, 0, 0, 0, 0, 0, 0, 0, 0, 0, 0, 0, 0]),
+    ]);
+    let expected = [
+        "order yes",
+        "taken 1 0=17:1:2:1:5:1",
+        "taken 1 0=19:2:3:2:4:2",
+        "refused 6 0",
+        "taken 3 0=20:1:7 1=21:1:2:1:5:5 2=17:2:3:2:4:1",
+        "taken 1 0=22:2:3:2:4",
+        "taken 1 0=17:0:0:4:0:1",
+        "taken 2 1=21:0:0:4:0:0",
+        "account closed 0 0 0",
+        "set",
+        "order no",
+        "refused 5 0",
+    ];
+    assert_eq!(answers, expected);
+}
+
+/// Frames from 64 on whose payload does not fit, and codes beside them.
+#[test]
+fn unknown_later_frames() {
+    let step = [0, 3, 1, 0, 0, 0, 1, 0, 0, 0, 2, 0, 0, 0, 5];
+    let answers = lines(&[
+        (64, &[0]),
+        (64, &[0, 3, 0]),
+        (64, &[0, 16]),
+        (68, &step[..14]),
+        (68, &[&step[..], &[0]].concat()),
+        (68, &[&[0, 16], &step[2..]].concat()),
+        (68, &[&[0, 3, 0], &step[3..]].concat()),
+        (68, &[&[0, 3, 7], &step[3..]].concat()),
+        (66, &[]),
+        (69, &step),
+        (255, &[]),
+        (6, &[0, 3]),
+    ]);
+    assert_eq!(answers[..11], ["unknown"; 11]);
+    assert_eq!(answers[11], "account new 0 0 0");
+}
+
 /// Frame 5 on a place and on the counts, whatever order it breaks.
 #[test]
 fn fields() {

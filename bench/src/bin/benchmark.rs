@@ -2,10 +2,10 @@
 
 use independent::contention::{simulate, Outcome, Pattern, Setting};
 use independent::measure::{agree, times, Runner};
-use independent::register;
+use independent::proved;
 use independent::rules::Rules;
+use independent::run::{room, run};
 use independent::workload::{accepted, steady, undecided, IN_PROGRESS};
-use independent::{measure, proved};
 use std::process::ExitCode;
 
 const USAGE: &str = "benchmark [--rounds N] [--messages N] [--ticks N] [--seed N]";
@@ -156,6 +156,6 @@ fn print_waits(name: &str, users: u32, places: usize, ratio: &str, result: &Outc
 
 /// Whether the proved register, where it is linked, writes the same entries.
 fn proved_agrees(messages: &[u8]) -> bool {
-    let right = register::run(messages, Rules::DOCUMENT);
-    !proved::LINKED || proved::run(messages, &mut measure::room(messages)) == right
+    let right = run(messages, Rules::DOCUMENT);
+    !proved::LINKED || proved::run(messages, &mut room(messages)) == right
 }

@@ -6,12 +6,12 @@ use independent::subject::Target;
 use std::io::{Read, Write};
 use std::process::ExitCode;
 
-const USAGE: &str = "standin program|probe [FAULT]";
+const USAGE: &str = "standin program|probe|exported [FAULT]";
 
 /// Prints the text for standard input.
 fn main() -> ExitCode {
     let words: Vec<String> = std::env::args().skip(1).collect();
-    let target = Target::BOTH.into_iter().find(|target| words.first().is_some_and(|word| word == target.name()));
+    let target = Target::ALL.into_iter().find(|target| words.first().is_some_and(|word| word == target.name()));
     let rules = match words.get(1) {
         None => Some(Rules::DOCUMENT),
         Some(name) => Fault::all().into_iter().find(|fault| format!("{fault:?}") == *name).map(Rules::wrong),

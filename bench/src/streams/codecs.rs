@@ -3,12 +3,33 @@
 use crate::message::{self, Message};
 use crate::probe::WIDEST;
 use crate::random::Random;
-use crate::register::Run;
 use crate::rules::{Rules, ROOM};
+use crate::run::run;
 use crate::streams::frames::Frames;
 use crate::streams::messages::at_random;
 
 const ROOMS: [usize; 14] = [0, 1, 10, 11, 14, 15, 100, 314, 314, 315, 315, 316, WIDEST, WIDEST + 1];
+/// Codes, and lengths of payloads that fit those which are listed.
+const FITTING: [(u8, usize); 18] = [
+    (1, 2),
+    (1, 17),
+    (2, 6),
+    (3, 0),
+    (3, 15),
+    (4, 17),
+    (5, 8),
+    (6, 2),
+    (7, 11),
+    (64, 2),
+    (67, 18),
+    (68, 15),
+    (0, 0),
+    (8, 0),
+    (63, 1),
+    (65, 2),
+    (66, 2),
+    (69, 15),
+];
 const ACCOUNT_EDGES: [u16; 10] = [0, 1, 7, 15, 15, 16, 255, 256, 257, 65_535];
 
 /// A call in any room; now and then its message is cut, empty, followed by bytes, or of no kind.
@@ -31,10 +52,10 @@ pub fn rooms(frames: &mut Frames) {
     frames.look(message.account);
 }
 
-/// One of the frames 3, 4 and 7.
+/// One of the frames 3, 4, 7 and 67.
 pub fn readers_and_writers(frames: &mut Frames) {
     let random = &mut frames.traffic.random;
-    match random.below(3) {
+    match random.below(4) {
         0 => {
             let mut bytes = at_random(random);
             spoil(random, &mut bytes);
@@ -47,7 +68,8 @@ pub fn readers_and_writers(frames: &mut Frames) {
         _ => {
             let mut bytes = an_entry(random);
             spoil(random, &mut bytes);
-            frames.frame(7, &[&bytes]);
+            let code = random.pick(&[7, 67]);
+            frames.frame(code, &[&bytes]);
         }
     }
 }
@@ -71,8 +93,7 @@ fn writing(random: &mut Random) -> Vec<u8> {
 fn an_entry(random: &mut Random) -> Vec<u8> {
     if random.chance(40) {
         let messages: Vec<u8> = (0..6).flat_map(|_| at_random(random)).collect();
-        let Run { entries, .. } = crate::register::run(&messages, Rules::DOCUMENT);
-        return entries;
+        return run(&messages, Rules::DOCUMENT).entries;
     }
     let kind = random.between(17, 22) as u8;
     let mut bytes = vec![kind];
@@ -106,11 +127,10 @@ pub fn misfits(frames: &mut Frames, count: usize) {
     for _ in 0..count {
         let random = &mut frames.traffic.random;
         if random.chance(40) {
-            frames.step();
+            frames.step(10);
             continue;
         }
-        let code = random.pick(&[1, 2, 3, 4, 5, 6, 7, 0, 8, 63]);
-        let fitting = [0, 2, 6, 0, 17, 8, 2, 0].get(usize::from(code)).copied().unwrap_or(0);
+        let (code, fitting) = random.pick(&FITTING);
         let length = match random.below(4) {
             0 => fitting,
             1 => fitting + 1,
@@ -143,8 +163,8 @@ pub fn arbitrary(frames: &mut Frames) {
         _ => {
             for _ in 0..length {
                 let random = &mut frames.traffic.random;
-                let code = random.between(0, 8) as u8;
-                let length = random.pick(&[0, 2, 6, 8, 13, 17, 17]);
+                let (code, fitting) = random.pick(&FITTING);
+                let length = random.pick(&[fitting, fitting, 0, 2, 6, 8, 13, 15, 17]);
                 let mut payload = random.bytes(length);
                 payload.iter_mut().for_each(|byte| *byte = if *byte < 230 { *byte % 7 } else { *byte });
                 frames.frame(code, &[&payload]);

@@ -86,7 +86,7 @@ fn proposal(random: &mut Random, clause: Clause, image: &Image) -> Vec<Change> {
     }
 }
 
-/// The broken account met by every public call: shown, called, asked.
+/// The broken account met by every public call: shown, called, stepped, asked.
 fn show_broken(frames: &mut Frames, account: u16, changes: &[Change]) {
     changes.iter().for_each(|change| frames.disturb(account, *change));
     frames.show(account);
@@ -101,6 +101,9 @@ fn show_broken(frames: &mut Frames, account: u16, changes: &[Change]) {
     frames.call(ROOM, &free.bytes(&Rules::DOCUMENT));
     let elsewhere = Message { account: 15 - account, kind: 1, ..free };
     frames.call(ROOM, &elsewhere.bytes(&Rules::DOCUMENT));
+    let kind = frames.traffic.random.between(1, 6) as u8;
+    frames.single(&Message { kind, ..free });
+    frames.order(account);
     frames.question(account);
     frames.show(account);
 }
@@ -111,6 +114,7 @@ fn mend(frames: &mut Frames, account: u16, before: &Image) {
         frames.disturb(account, change);
     }
     frames.show(account);
+    frames.order(account);
     frames.question(account);
 }
 

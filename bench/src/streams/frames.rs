@@ -1,6 +1,7 @@
 //! Streams for the probe: frames one after the other, and what is not frames.
 
 use crate::image::Image;
+use crate::message::Message;
 use crate::probe::WIDEST;
 use crate::random::Random;
 use crate::rules::{Rules, ACCOUNTS, LONGEST, ROOM};
@@ -8,7 +9,7 @@ use crate::streams::traffic::Traffic;
 use crate::streams::{codecs, disturbance};
 
 /// The kinds of streams, each with what it is after.
-pub const KINDS: [&str; 10] = [
+pub const KINDS: [&str; 11] = [
     "calls on one account at a time",
     "calls on four accounts",
     "rooms and torn messages",
@@ -18,11 +19,9 @@ pub const KINDS: [&str; 10] = [
     "accounts built field by field",
     "frames that do not fit",
     "arbitrary bytes",
+    "single steps among calls",
     "the longest input",
 ];
-
-/// The first code that a later page may describe: streams keep below it.
-pub const DESCRIBED_ELSEWHERE: u8 = 64;
 
 /// A stream of the kind.
 pub fn stream(kind: usize, mut random: Random) -> Vec<u8> {
@@ -30,7 +29,7 @@ pub fn stream(kind: usize, mut random: Random) -> Vec<u8> {
     let accounts = if matches!(kind, 0 | 2 | 4) { 1 } else { 4 };
     let mut frames = Frames::on(random, accounts);
     match kind {
-        0 | 1 => (0..count).for_each(|_| frames.step()),
+        0 | 1 => (0..count).for_each(|_| frames.step(10)),
         2 => (0..count).for_each(|_| codecs::rooms(&mut frames)),
         3 => (0..count).for_each(|_| codecs::readers_and_writers(&mut frames)),
         4 => disturbance::clauses(&mut frames, count.min(60)),
@@ -38,12 +37,13 @@ pub fn stream(kind: usize, mut random: Random) -> Vec<u8> {
         6 => disturbance::built(&mut frames, count.min(40)),
         7 => codecs::misfits(&mut frames, count),
         8 => codecs::arbitrary(&mut frames),
+        9 => (0..count).for_each(|_| frames.step(85)),
         _ => longest(&mut frames),
     }
-    if kind != 9 {
+    if kind != 10 {
         frames.bytes.truncate(LONGEST);
     }
-    below_64(frames.bytes)
+    frames.bytes
 }
 
 /// Frames so far, with the traffic that they drive.
@@ -95,26 +95,51 @@ impl Frames {
         self.frame(6, &[&account.to_be_bytes()]);
     }
 
+    /// Frame 64.
+    pub fn order(&mut self, account: u16) {
+        self.frame(64, &[&account.to_be_bytes()]);
+    }
+
+    /// Frame 68, and the traffic's register goes on by it.
+    pub fn single(&mut self, message: &Message) {
+        let Message { kind, transaction, account, second, amount } = *message;
+        let head = [&account.to_be_bytes()[..], &[kind]].concat();
+        self.frame(68, &[&head, &transaction.to_be_bytes(), &second.to_be_bytes(), &amount.to_be_bytes()]);
+        if usize::from(account) < ACCOUNTS {
+            let _ = self.traffic.register.step(message);
+        }
+    }
+
     /// The stored form of an account.
     pub fn image(&self, account: u16) -> Image {
         self.traffic.register.image(usize::from(account))
     }
 
-    /// The next message in a call, and often a look at the account.
-    pub fn step(&mut self) {
-        let message = self.traffic.compose();
-        let room = self.traffic.random.pick(&[ROOM, ROOM, ROOM, 316, 500, WIDEST]);
-        self.call(room, &message.bytes(&Rules::DOCUMENT));
+    /// The next message in a call, or so many times in a hundred as a single step; often a look at the account.
+    pub fn step(&mut self, singles: u64) {
+        let mut message = self.traffic.compose();
+        if self.traffic.random.chance(singles) {
+            if message.kind > 3 {
+                message.amount = self.traffic.random.pick(&[0, 1, u32::MAX]);
+            }
+            self.single(&message);
+        } else {
+            let room = self.traffic.random.pick(&[ROOM, ROOM, ROOM, 316, 500, WIDEST]);
+            self.call(room, &message.bytes(&Rules::DOCUMENT));
+        }
         self.look(message.account);
     }
 
-    /// Now and then a show or an outcome question.
+    /// Now and then a show, an outcome question, or the question whether the account is in order.
     pub fn look(&mut self, account: u16) {
         if self.traffic.random.chance(30) {
             self.show(account);
         }
         if self.traffic.random.chance(20) {
             self.question(account);
+        }
+        if self.traffic.random.chance(15) {
+            self.order(account);
         }
     }
 
@@ -147,7 +172,7 @@ fn longest(frames: &mut Frames) {
         _ => LONGEST + 1,
     };
     while frames.bytes.len() + 100 < length {
-        frames.step();
+        frames.step(10);
     }
     if frames.traffic.random.chance(60) {
         let left = length - frames.bytes.len() - 3;
@@ -172,15 +197,4 @@ fn longest_lines(frames: &mut Frames) {
     while frames.bytes.len() + 5 <= LONGEST {
         frames.show(account);
     }
-}
-
-/// The bytes with every code that a frame has from 64 on made lower.
-fn below_64(mut bytes: Vec<u8>) -> Vec<u8> {
-    let mut at = 0;
-    while at < bytes.len() {
-        bytes[at] %= DESCRIBED_ELSEWHERE;
-        let Some((_, payload, _)) = crate::probe::split(&bytes[at..]) else { break };
-        at += 3 + payload.len();
-    }
-    bytes
 }

@@ -1,5 +1,7 @@
 //! The probe: frames in, lines out, by the protocol of its page.
 
+mod later;
+
 use crate::entry;
 use crate::fault::Fault;
 use crate::image::{Image, Place};
@@ -48,28 +50,17 @@ pub fn split(bytes: &[u8]) -> Option<(u8, &[u8], &[u8])> {
 }
 
 /// The line of a frame, none where it is unknown.
-fn answer(register: &mut Register, code: u8, payload: &[u8], rules: &Rules) -> Option<String> {
+pub fn answer(register: &mut Register, code: u8, payload: &[u8], rules: &Rules) -> Option<String> {
     let mut numbers = Numbers { bytes: payload };
-    let fits = match code {
-        1 => payload.len() >= 2,
-        2 => payload.len() == 6,
-        4 => payload.len() == 17,
-        5 => payload.len() == 8,
-        6 => payload.len() == 2,
-        3 | 7 => true,
-        _ => false,
-    };
-    if !fits {
-        return None;
-    }
-    match code {
-        1 => call(register, numbers.next(2), numbers.bytes),
-        2 => Some(outcome(register, numbers.next(2) as u16, numbers.next(4))),
-        3 => Some(read(payload, rules)),
-        4 => write(&mut numbers, rules),
-        5 => disturb(register, &mut numbers, rules),
-        6 => show(register, numbers.next(2), rules),
-        _ => Some(entry(payload, rules)),
+    match (code, payload.len()) {
+        (1, 2..) => call(register, numbers.next(2), numbers.bytes),
+        (2, 6) => Some(outcome(register, numbers.next(2) as u16, numbers.next(4))),
+        (3, _) => Some(read(payload, rules)),
+        (4, 17) => write(&mut numbers, rules),
+        (5, 8) => disturb(register, &mut numbers, rules),
+        (6, 2) => show(register, numbers.next(2), rules),
+        (7, _) => Some(entry(payload, rules)),
+        _ => later::answer(register, code, payload, rules),
     }
 }
 
@@ -164,14 +155,8 @@ fn entry(bytes: &[u8], rules: &Rules) -> String {
     let Some((entry, account, length)) = entry::read(bytes, rules) else {
         return "none".into();
     };
-    let mut line = format!("entry {} {} {account} {}", entry.kind(), entry.transaction, entry.second);
-    if let Some(event) = entry.event() {
-        line += &format!(" {} {}", event.kind(), event.amount());
-    }
-    if let Some(last) = entry.last() {
-        line += &format!(" {last}");
-    }
-    line + &format!(" {length}")
+    let (kind, numbers) = (entry.kind(), entry.numbers(' '));
+    format!("entry {kind} {} {account} {}{numbers} {length}", entry.transaction, entry.second)
 }
 
 /// The number of an account, none above 15.
