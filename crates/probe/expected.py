@@ -69,6 +69,10 @@ def order(account, line):
     case(64, number(account, 2), line)
 
 
+def run(sent, *words, room=1024):
+    case(65, number(room, 2) + sent, *words)
+
+
 def step(account, kind, transaction, second, amount, line):
     sent = number(account, 2) + number(kind, 1)
     case(68, sent + number(transaction, 4) + number(second, 4) + number(amount, 4), line)
@@ -337,8 +341,59 @@ case(68, bytes(14), "unknown")
 case(68, bytes(16), "unknown")
 show(4, "account new 0 0 0")
 
+# A run of messages through a fresh register of its own. First the example of document 01.
+run(
+    message(OPEN, 1, 0, 100, 100)
+    + message(COMMIT, 1, 0, 100)
+    + message(WITHDRAW, 2, 0, 100, 60)
+    + message(WITHDRAW, 3, 0, 100, 60)
+    + message(ABORT, 2, 0, 100)
+    + message(COMMIT, 3, 0, 100),
+    "ran 6 0 78 150",
+    hexed(
+        "11 00000001 0000 00000064 01 00000064 0001"
+        " 14 00000001 0000 00000064"
+        " 15 00000001 0000 00000064 01 00000064 00000064"
+        " 11 00000002 0000 00000064 02 0000003c 0001"
+        " 13 00000003 0000 00000064 02 0000003c 0002"
+        " 16 00000002 0000 00000064 02 0000003c"
+        " 11 00000003 0000 00000064 02 0000003c 0001"
+        " 14 00000003 0000 00000064"
+        " 15 00000003 0000 00000064 02 0000003c 00000028"
+    ),
+    "kept",
+)
+run(b"", "ran 0 0 0 0 - kept")
+run(b"", "ran 0 0 0 0 - kept", room=0)
+
+# The run stops at a torn message and at an unknown kind, and skips other refused ones; 3 comes before 4.
+first = message(OPEN, 1, 15, 5, 7)
+first_entry = hexed("11 00000001 000f 00000005 01 00000007 0001")
+run(first + message(WITHDRAW, 2, 15, 5, 3)[:14], "ran 2 1 15 18", first_entry, "kept")
+run(first + b"\7" + message(COMMIT, 1, 15, 5), "ran 2 1 15 18", first_entry, "kept")
+run(b"\0", "ran 1 1 0 0 - kept")
+run(message(CLOSE, 1, 16, 5) + first + first, "ran 3 2 41 18", first_entry, "kept")
+run(message(CLOSE, 1, 16, 5) + message(ABORT, 1, 0, 5)[:10], "ran 2 2 11 0 - kept", room=0)
+
+# Room of 314 bytes and of 315; room that runs out after the first message, and after the second.
+committed = hexed("14 00000001 000f 00000006 15 00000001 000f 00000005 01 00000007 00000007")
+run(first, "ran 1 1 15 0 - kept", room=314)
+run(first, "ran 1 0 15 18", first_entry, "kept", room=315)
+run(first + message(COMMIT, 1, 15, 6), "ran 2 1 26 18", first_entry, "kept", room=332)
+run(first + message(COMMIT, 1, 15, 6), "ran 2 0 26 49", first_entry + committed, "kept", room=333)
+run(first + message(COMMIT, 1, 15, 6) + message(CLOSE, 2, 15, 7), "ran 3 1 37 49", first_entry + committed, "kept", room=333)
+run(first, "unknown", room=1025)
+case(65, b"\1", "unknown")
+case(65, b"", "unknown")
+
+# The register of the run knows nothing of the accounts here, one of them not in order, and leaves them as they were.
+run(message(OPEN, 1, 3, 0, 7), "ran 1 0 15 18", hexed("11 00000001 0003 00000000 01 00000007 0001"), "kept")
+show(3, "account closed 1 0 0")
+show(0, "account opened 40 0 0")
+show(15, "account new 0 0 0")
+
 # Codes that are not listed, and a torn frame, with whatever code, at the end.
-for code in (0, 8, 63, 65, 66, 69, 255):
+for code in (0, 8, 63, 66, 69, 255):
     case(code, b"", "unknown")
 frames.extend(b"\x09\x00\x02\x00")
 lines.append("torn")

@@ -4,6 +4,7 @@ mod disturb;
 mod entries;
 mod messages;
 mod places;
+mod runs;
 mod show;
 mod steps;
 mod text;
@@ -135,6 +136,7 @@ fn look(register: Register, code: u8, payload: &[u8], page: &mut Page, at: usize
         4 => messages::write(payload, page, at),
         6 | 64 => look_at(register, code, payload, page, at),
         7 => entries::read(payload, page, at),
+        65 => runs::run(payload, page, at),
         67 => entries::line(payload, page, at),
         _ => text::unknown(page, at),
     }

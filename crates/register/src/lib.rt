@@ -6,6 +6,8 @@ mod runs;
 
 use account::Account;
 use account::Outlook;
+pub use runs::Ran;
+pub use runs::run;
 ghost use mathlib.Core.Path.{_≡_};
 ghost use Prim.Native.Nat.{_<_};
 ghost use Rattle.register.specs.Register.{freshRegister, withAccount, outlookIn};
