@@ -69,10 +69,12 @@ impl Tally {
     }
 }
 
-/// Answers to the frames from 64 on: both orders, every line of text, every refusal of a step, the longest step.
+/// Answers to the frames from 64 on: both orders, runs taken whole and in part, every line of text, every refusal of a
+/// step, the longest step.
 fn later() -> Vec<String> {
     let lines = ENTRIES.iter().map(|entry| format!("67 {entry}"));
     let refusals = (5..=11).map(|number| format!("68 refused {number}"));
+    let runs = ["nothing", "whole", "refused", "in part"].map(|run| format!("65 ran {run}"));
     let others = ["64 order yes", "64 order no", "67 none", "68 taken 1", "68 taken 17"].map(str::to_string);
-    lines.chain(refusals).chain(others).collect()
+    lines.chain(refusals).chain(runs).chain(others).collect()
 }

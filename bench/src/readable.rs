@@ -69,6 +69,7 @@ fn frame_line(code: u8, payload: &[u8]) -> String {
         (6, 2) => format!("show account {}", numbers.next(2)),
         (7, _) => format!("read entry: bytes {}", shortened(payload)),
         (64, 2) => format!("order of account {}", numbers.next(2)),
+        (65, 2..) => format!("run, room {}: bytes {}", numbers.next(2), shortened(&payload[2..])),
         (67, _) => format!("line of text: bytes {}", shortened(payload)),
         (68, 15) => step_line(&mut numbers),
         _ => format!("frame {code}: bytes {}", shortened(payload)),

@@ -70,7 +70,7 @@ impl Tally {
             rest = after;
             answer(&mut register, code, payload, &Rules::DOCUMENT);
             match code {
-                64 | 67 | 68 => self.add_later(code, line),
+                64 | 65 | 67 | 68 => self.add_later(code, line),
                 _ => self.add_line(Target::Probe, line),
             }
             if code == 1 && line.starts_with("refused 5") {
@@ -79,11 +79,19 @@ impl Tally {
         }
     }
 
-    /// Counts a line of a frame from 64 on: orders and steps with the word or number behind the first.
+    /// Counts a line of a frame from 64 on: orders and steps with the word or number behind the first, runs by
+    /// whether all was taken.
     fn add_later(&mut self, code: u8, line: &str) {
-        let words = if code == 67 { 1 } else { 2 };
-        let first: Vec<&str> = line.split(' ').take(words).collect();
-        count(&mut self.later, format!("{code} {}", first.join(" ")));
+        let words: Vec<&str> = line.split(' ').collect();
+        let says = match (code, words[0]) {
+            (65, "ran") if words[1] == "0" => "ran nothing".to_string(),
+            (65, "ran") if words[2] == "0" => "ran whole".to_string(),
+            (65, "ran") if words[4] == "0" => "ran refused".to_string(),
+            (65, "ran") => "ran in part".to_string(),
+            (64 | 68, _) => words[..words.len().min(2)].join(" "),
+            _ => words[0].to_string(),
+        };
+        count(&mut self.later, format!("{code} {says}"));
     }
 
     /// Counts a refused call on an account that breaks one clause and no other.

@@ -207,6 +207,40 @@ fn orders_and_steps() {
     assert_eq!(answers, expected);
 }
 
+/// Frame 65, with a register of its own.
+#[test]
+fn runs() {
+    let open = &OPEN_SEVEN[2..];
+    let commit = [5, 0, 0, 0, 9, 0, 0, 0, 0, 0, 6];
+    let run = |room: u16, messages: &[&[u8]]| [&room.to_be_bytes()[..], &messages.concat()].concat();
+    let answers = lines(&[
+        (5, &[0, 0, 1, 0, 0, 0, 0, 1]),
+        (65, &run(0, &[])),
+        (65, &run(314, &[open])),
+        (65, &run(315, &[open])),
+        (65, &run(333, &[open, &commit, &commit])),
+        (65, &run(1_024, &[&commit, open, open, &open[..14]])),
+        (65, &run(1_024, &[open, &[7], &commit])),
+        (65, &run(1_025, &[open])),
+        (65, &[1]),
+        (6, &[0, 0]),
+    ]);
+    let expected = [
+        "set",
+        "ran 0 0 0 0 - kept",
+        "ran 1 1 15 0 - kept",
+        "ran 1 0 15 18 110000000900000000000501000000070001 kept",
+        "ran 3 1 37 49 110000000900000000000501000000070001\
+         14000000090000000000061500000009000000000005010000000700000007 kept",
+        "ran 4 3 41 18 110000000900000000000501000000070001 kept",
+        "ran 2 1 15 18 110000000900000000000501000000070001 kept",
+        "unknown",
+        "unknown",
+        "account new 1 0 0",
+    ];
+    assert_eq!(answers, expected);
+}
+
 /// Frames from 64 on whose payload does not fit, and codes beside them.
 #[test]
 fn unknown_later_frames() {

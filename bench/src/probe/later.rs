@@ -1,18 +1,20 @@
-//! Frames from 64 on: an account's order, an entry's line of text, an account's single step.
+//! Frames from 64 on: an account's order, a run of messages, an entry's line of text, an account's single step.
 
-use super::account;
+use super::{account, hex, lent, rest_kept};
 use crate::entry::{self, Entry};
 use crate::fault::Fault;
 use crate::message::{self, Message, Numbers};
 use crate::order::{broken, Clause};
 use crate::register::Register;
 use crate::rules::Rules;
+use crate::run::{run_into, Ran};
 
 /// The line of a frame, none where it is unknown.
 pub fn answer(register: &mut Register, code: u8, payload: &[u8], rules: &Rules) -> Option<String> {
     let mut numbers = Numbers { bytes: payload };
     match (code, payload.len()) {
         (64, 2) => order(register, numbers.next(2), rules),
+        (65, 2..) => run(numbers.next(2), numbers.bytes, rules),
         (67, _) => Some(line(payload, rules)),
         (68, 15) => step(register, &mut numbers, rules),
         _ => None,
@@ -25,6 +27,15 @@ fn order(register: &Register, number: u32, rules: &Rules) -> Option<String> {
     let stays = || broken(&register.image(at)) == [Clause::OldestHeldStays];
     let yes = register.in_order(at) || rules.has(Fault::OrderWithoutHeld) && stays();
     Some(format!("order {}", if yes { "yes" } else { "no" }))
+}
+
+/// Frame 65: a run of messages through a fresh register of its own.
+fn run(room: u32, messages: &[u8], rules: &Rules) -> Option<String> {
+    let mut buffer = lent(room)?;
+    let ran = run_into(messages, &mut buffer, &mut Register::fresh(*rules), rules);
+    let Ran { met, refused, consumed, written } = ran;
+    let (entries, rest) = buffer.split_at(written as usize);
+    Some(format!("ran {met} {refused} {consumed} {written} {} {}", hex(entries), rest_kept(rest)))
 }
 
 /// Frame 67: the line of text of an entry.

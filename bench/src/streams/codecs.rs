@@ -10,7 +10,7 @@ use crate::streams::messages::at_random;
 
 const ROOMS: [usize; 14] = [0, 1, 10, 11, 14, 15, 100, 314, 314, 315, 315, 316, WIDEST, WIDEST + 1];
 /// Codes, and lengths of payloads that fit those which are listed.
-const FITTING: [(u8, usize); 18] = [
+const FITTING: [(u8, usize); 19] = [
     (1, 2),
     (1, 17),
     (2, 6),
@@ -21,12 +21,13 @@ const FITTING: [(u8, usize); 18] = [
     (6, 2),
     (7, 11),
     (64, 2),
+    (65, 2),
+    (65, 28),
     (67, 18),
     (68, 15),
     (0, 0),
     (8, 0),
     (63, 1),
-    (65, 2),
     (66, 2),
     (69, 15),
 ];

@@ -6,10 +6,10 @@ use crate::probe::WIDEST;
 use crate::random::Random;
 use crate::rules::{Rules, ACCOUNTS, LONGEST, ROOM};
 use crate::streams::traffic::Traffic;
-use crate::streams::{codecs, disturbance};
+use crate::streams::{codecs, disturbance, runs};
 
 /// The kinds of streams, each with what it is after.
-pub const KINDS: [&str; 11] = [
+pub const KINDS: [&str; 12] = [
     "calls on one account at a time",
     "calls on four accounts",
     "rooms and torn messages",
@@ -20,6 +20,7 @@ pub const KINDS: [&str; 11] = [
     "frames that do not fit",
     "arbitrary bytes",
     "single steps among calls",
+    "runs among calls",
     "the longest input",
 ];
 
@@ -38,9 +39,10 @@ pub fn stream(kind: usize, mut random: Random) -> Vec<u8> {
         7 => codecs::misfits(&mut frames, count),
         8 => codecs::arbitrary(&mut frames),
         9 => (0..count).for_each(|_| frames.step(85)),
+        10 => (0..count.min(60)).for_each(|_| runs::frame(&mut frames)),
         _ => longest(&mut frames),
     }
-    if kind != 10 {
+    if kind != 11 {
         frames.bytes.truncate(LONGEST);
     }
     frames.bytes

@@ -20,6 +20,11 @@ pub const KINDS: [&str; 8] = [
 /// A stream of the kind.
 pub fn stream(kind: usize, mut random: Random) -> Vec<u8> {
     let count = random.length(4, 2_000);
+    counted(kind, random, count)
+}
+
+/// A stream of the kind with so many messages, or about so many, where its kind does not say otherwise.
+pub fn counted(kind: usize, mut random: Random, count: usize) -> Vec<u8> {
     match kind {
         0 => traffic(random, 1, count),
         1 => traffic(random, 3, count),

@@ -1,9 +1,11 @@
-//! Streams for the exported call: what a run is lent, and its messages.
+//! Streams for the exported call, and frames of the probe: what a run is lent, and its messages.
 
 use crate::exported::MOST_ROOM;
+use crate::probe::WIDEST;
 use crate::random::Random;
 use crate::rules::{Rules, ROOM};
 use crate::run::run;
+use crate::streams::frames::Frames;
 use crate::streams::messages;
 
 /// The kinds of streams, each with what it is after.
@@ -40,4 +42,16 @@ pub fn stream(kind: usize, mut random: Random) -> Vec<u8> {
     let places = random.pick(&[0, 1, 2, 3, 4, 4, 5]);
     let head = &(room.min(MOST_ROOM) as u32).to_be_bytes()[1..];
     [head, &[places], &sent].concat()
+}
+
+/// Frame 65, and the next message of the probe's own register after it.
+pub fn frame(frames: &mut Frames) {
+    let random = &mut frames.traffic.random;
+    let kind = random.below(messages::KINDS.len() as u64 - 1) as usize;
+    let count = random.length(1, 40) - 1;
+    let sent = messages::counted(kind, Random::of(random.number(), 0), count);
+    let any = random.below(WIDEST as u64) as usize;
+    let room = random.pick(&[0, ROOM - 1, ROOM, ROOM, ROOM + 18, ROOM + 49, any, WIDEST, WIDEST, WIDEST, WIDEST + 1]);
+    frames.frame(65, &[&(room as u16).to_be_bytes(), &sent]);
+    frames.step(10);
 }
