@@ -24,16 +24,15 @@ pub fn answer(register: &mut Register, code: u8, payload: &[u8], rules: &Rules) 
 /// Frame 64: whether an account is in order.
 fn order(register: &Register, number: u32, rules: &Rules) -> Option<String> {
     let at = account(number)?;
-    let stays = || broken(&register.image(at)) == [Clause::OldestHeldStays];
-    let yes = register.in_order(at) || rules.has(Fault::OrderWithoutHeld) && stays();
+    let but_for_held = || broken(&register.image(at)) == [Clause::OldestHeldStays];
+    let yes = register.in_order(at) || rules.has(Fault::OrderWithoutHeld) && but_for_held();
     Some(format!("order {}", if yes { "yes" } else { "no" }))
 }
 
 /// Frame 65: a run of messages through a fresh register of its own.
 fn run(room: u32, messages: &[u8], rules: &Rules) -> Option<String> {
     let mut buffer = lent(room)?;
-    let ran = run_into(messages, &mut buffer, &mut Register::fresh(*rules), rules);
-    let Ran { met, refused, consumed, written } = ran;
+    let Ran { met, refused, consumed, written } = run_into(messages, &mut buffer, &mut Register::fresh(*rules), rules);
     let (entries, rest) = buffer.split_at(written as usize);
     Some(format!("ran {met} {refused} {consumed} {written} {} {}", hex(entries), rest_kept(rest)))
 }

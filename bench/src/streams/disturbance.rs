@@ -86,7 +86,7 @@ fn proposal(random: &mut Random, clause: Clause, image: &Image) -> Vec<Change> {
     }
 }
 
-/// The broken account met by every public call: shown, called, stepped, asked.
+/// The broken account met by every public call: shown, called, stepped, asked; a run beside it.
 fn show_broken(frames: &mut Frames, account: u16, changes: &[Change]) {
     changes.iter().for_each(|change| frames.disturb(account, *change));
     frames.show(account);
@@ -103,6 +103,7 @@ fn show_broken(frames: &mut Frames, account: u16, changes: &[Change]) {
     frames.call(ROOM, &elsewhere.bytes(&Rules::DOCUMENT));
     let kind = frames.traffic.random.between(1, 6) as u8;
     frames.single(&Message { kind, ..free });
+    frames.run(ROOM, &Message { kind: 1, ..free }.bytes(&Rules::DOCUMENT));
     frames.order(account);
     frames.question(account);
     frames.show(account);

@@ -102,6 +102,11 @@ impl Frames {
         self.frame(64, &[&account.to_be_bytes()]);
     }
 
+    /// Frame 65.
+    pub fn run(&mut self, room: usize, messages: &[u8]) {
+        self.frame(65, &[&(room as u16).to_be_bytes(), messages]);
+    }
+
     /// Frame 68, and the traffic's register goes on by it.
     pub fn single(&mut self, message: &Message) {
         let Message { kind, transaction, account, second, amount } = *message;

@@ -52,6 +52,6 @@ pub fn frame(frames: &mut Frames) {
     let sent = messages::counted(kind, Random::of(random.number(), 0), count);
     let any = random.below(WIDEST as u64) as usize;
     let room = random.pick(&[0, ROOM - 1, ROOM, ROOM, ROOM + 18, ROOM + 49, any, WIDEST, WIDEST, WIDEST, WIDEST + 1]);
-    frames.frame(65, &[&(room as u16).to_be_bytes(), &sent]);
+    frames.run(room, &sent);
     frames.step(10);
 }
