@@ -82,13 +82,16 @@ impl Row {
     {
         let slots = self.slots;
         let count = self.count;
-        let mut row = Row::EMPTY;
+        let mut marked = [BLANK; 8];
         let mut i = 0;
         while i < count {
-            row = row.with(committed_if(slots[i], transaction));
+            marked[i] = committed_if(slots[i], transaction);
             i += 1;
         }
-        row
+        Row {
+            slots: marked,
+            count,
+        }
     }
 
     // The row without that transaction.
@@ -117,13 +120,17 @@ impl Row {
     {
         let slots = self.slots;
         let count = self.count;
-        let mut younger = Row::EMPTY;
+        let mut younger = [BLANK; 8];
         let mut i = oldest;
         while i < count {
-            younger = younger.with(slots[i]);
+            let slot = slots[i];
+            younger[i - oldest] = slot;
             i += 1;
         }
-        younger
+        Row {
+            slots: younger,
+            count: count - oldest,
+        }
     }
 }
 

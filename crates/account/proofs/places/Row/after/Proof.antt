@@ -1,37 +1,46 @@
--- The loop's invariant: the row that is built has what the places before `i` give.
+-- The loop's invariant: the places that are built are a row of what the places before `i` give.
 -- Assumes nothing.
-use Prim.Native.Nat.{_≤_, _-_}
+use Prim.Native.Nat.{_≤_, _-_, _+_}
 use mathlib.Core.Path.{_≡_, sym, _∙_, ap}
 use borrow.Author.Needs.{needs}
 use native.Mathlib.Omega.{arith}
-use lib.ListN.{length}
+use lib.ListN.{length, getD}
+use Rattle.account.specs.Places.{blank}
 use Rattle.account.specs.Rows.{rowOf}
 use Rattle.account.proofs.Padded.{as-many}
 use Rattle.account.proofs.Slices.{usedFrom}
-use Rattle.account.proofs.Rows.{from-none, from-more}
+use Rattle.account.proofs.Rows.{row, row-with, from-none, from-more}
 use Rattle.account.proofs.places.Row.after.Statement.{statement}
 use Rattle.account.proofs.places.Row.after.Tie as tie
 
 abbrev Inv-loop : tie.InvT-loop
-Inv-loop oldest slots count row₀ i₀ row i = ((oldest ≤ i) × (i ≤ count) × (count ≤ length slots) × (row .count ≤ i)) × (row ≡ rowOf (usedFrom oldest i slots))
+Inv-loop oldest slots count younger₀ i₀ younger i = ((oldest ≤ i) × (i ≤ count) × (count ≤ 8) × (8 ≤ length slots)) × (row younger (i - oldest) ≡ rowOf (usedFrom oldest i slots))
 
 abbrev μ-loop : tie.MeasureT-loop
-μ-loop oldest slots count row₀ i₀ row i = count - i
+μ-loop oldest slots count younger₀ i₀ younger i = count - i
 
 loop-holds : tie.Need-loop-holds Inv-loop μ-loop
 unfolding rowOf
 loop-holds c =
-    let size : length (c .before .args .self .slots) ≡ 8 = as-many (c .before .args .self .slots) (c .before .good .0 .1 .1 .0 .1 .0 .1) in
-    (omega arith, ap rowOf (sym (from-none (c .before .args .oldest) (c .before .args .self .slots))))
+    let a = c .before .args in
+    let size : length (a .self .slots) ≡ 8 = as-many (a .self .slots) (c .before .good .0 .1 .1 .0 .1 .0 .1) in
+    let none : a .oldest - a .oldest ≡ 0 = omega arith in
+    (omega arith, rw none (ap rowOf (sym (from-none (a .oldest) (a .self .slots)))))
 
-mul-with : tie.Need-mul-with Inv-loop μ-loop
-mul-with c = search needs
+mul-slot : tie.Need-mul-slot Inv-loop μ-loop
+mul-slot c = search needs
 
-array-copy-out-with : tie.Need-array-copy-out-with Inv-loop μ-loop
-array-copy-out-with c = search needs
+array-copy-out-slot : tie.Need-array-copy-out-slot Inv-loop μ-loop
+array-copy-out-slot c = search needs
 
-with-requires : tie.Need-with-requires Inv-loop μ-loop
-with-requires c κs = search needs
+sub-younger : tie.Need-sub-younger Inv-loop μ-loop
+sub-younger c = search needs
+
+mul-younger : tie.Need-mul-younger Inv-loop μ-loop
+mul-younger c = search needs
+
+array-set-from-younger : tie.Need-array-set-from-younger Inv-loop μ-loop
+array-set-from-younger c = search needs
 
 add-i : tie.Need-add-i Inv-loop μ-loop
 add-i c = search needs
@@ -41,12 +50,17 @@ loop-less c = search needs
 
 loop-again : tie.Need-loop-again Inv-loop μ-loop
 loop-again c =
-    let args = c .before .before .before .before .before .args in
-    let loop = c .before .before .before .loop in (
-      omega (arith, c .with .ensures .count),
-      c .with .ensures .list (usedFrom (args .oldest) (loop .i) (args .self .slots)) (loop .inv .1)
-          ∙ ap rowOf (from-more (args .oldest) (args .self .slots) (loop .i) (search needs) (search needs)),
+    let a = c .before .before .before .before .args in
+    let v = c .before .before .loop in
+    let next : v .i + 1 - a .oldest ≡ v .i - a .oldest + 1 = omega (arith, v .inv .0) in (
+      omega (arith, v .inv .0),
+      rw next
+      (row-with (row (v .younger) (v .i - a .oldest)) (getD (a .self .slots) (v .i) blank) (usedFrom (a .oldest) (v .i) (a .self .slots)) (omega (arith, v .inv .0)) (v .inv .1)
+      ∙ ap rowOf (from-more (a .oldest) (a .self .slots) (v .i) (omega (arith, v .inv .0)) (v .inv .0 .0))),
     )
+
+sub-t20 : tie.Need-sub-t20 Inv-loop μ-loop
+sub-t20 c = search needs
 
 returns : tie.Need-returns Inv-loop μ-loop
 returns c =
@@ -60,10 +74,13 @@ after-spec =
     Inv-loop
     μ-loop
     loop-holds
-    mul-with
-    array-copy-out-with
-    with-requires
+    mul-slot
+    array-copy-out-slot
+    sub-younger
+    mul-younger
+    array-set-from-younger
     add-i
     loop-less
     loop-again
+    sub-t20
     returns)

@@ -1,4 +1,4 @@
--- The loop's invariant: the row that is built has what the places before `i` give.
+-- The loop's invariant: the places that are built are a row of what the places before `i` give.
 -- Assumes nothing.
 use Prim.Native.Nat.{_≤_, _-_}
 use mathlib.Core.Path.{_≡_, refl, _∙_, ap}
@@ -9,15 +9,15 @@ use Rattle.rule.specs.Step.{mark}
 use Rattle.account.specs.Places.{slotOf, used}
 use Rattle.account.specs.Rows.{rowOf}
 use Rattle.account.proofs.Padded.{as-many}
-use Rattle.account.proofs.Rows.{marked-more}
+use Rattle.account.proofs.Rows.{row, row-with, marked-more}
 use Rattle.account.proofs.places.Row.marked.Statement.{statement}
 use Rattle.account.proofs.places.Row.marked.Tie as tie
 
 abbrev Inv-loop : tie.InvT-loop
-Inv-loop transaction slots count row₀ i₀ row i = ((i ≤ count) × (count ≤ length slots) × (row .count ≤ i)) × (row ≡ rowOf (mark transaction (used slots i)))
+Inv-loop transaction slots count marked₀ i₀ marked i = ((i ≤ count) × (count ≤ 8) × (8 ≤ length slots)) × (row marked i ≡ rowOf (mark transaction (used slots i)))
 
 abbrev μ-loop : tie.MeasureT-loop
-μ-loop transaction slots count row₀ i₀ row i = count - i
+μ-loop transaction slots count marked₀ i₀ marked i = count - i
 
 loop-holds : tie.Need-loop-holds Inv-loop μ-loop
 unfolding rowOf
@@ -34,8 +34,11 @@ array-copy-out-committed-if c = search needs
 committed-if-requires : tie.Need-committed-if-requires Inv-loop μ-loop
 committed-if-requires c κs = search needs
 
-with-requires : tie.Need-with-requires Inv-loop μ-loop
-with-requires c κs = search needs
+mul-marked : tie.Need-mul-marked Inv-loop μ-loop
+mul-marked c = search needs
+
+array-set-from-marked : tie.Need-array-set-from-marked Inv-loop μ-loop
+array-set-from-marked c = search needs
 
 add-i : tie.Need-add-i Inv-loop μ-loop
 add-i c = search needs
@@ -45,11 +48,11 @@ loop-less c = search needs
 
 loop-again : tie.Need-loop-again Inv-loop μ-loop
 loop-again c =
-    let args = c .before .before .before .before .before .before .args in
-    let loop = c .before .before .before .before .loop in (
-      omega (arith, c .with .ensures .count),
-      c .with .ensures .list (mark (args .transaction) (used (args .self .slots) (loop .i))) (loop .inv .1)
-          ∙ ap rowOf (marked-more (args .transaction) (args .self .slots) (loop .i) (search needs) (slotOf (c .before .committed-if .result)) (c .before .committed-if .ensures)),
+    let a = c .before .before .before .before .before .args in
+    let v = c .before .before .before .loop in (
+      omega (arith, v .inv .0),
+      row-with (row (v .marked) (v .i)) (c .committed-if .result) (mark (a .transaction) (used (a .self .slots) (v .i))) (omega (arith, v .inv .0)) (v .inv .1)
+          ∙ ap rowOf (marked-more (a .transaction) (a .self .slots) (v .i) (omega (arith, v .inv .0)) (slotOf (c .committed-if .result)) (c .committed-if .ensures)),
     )
 
 returns : tie.Need-returns Inv-loop μ-loop
@@ -67,7 +70,8 @@ marked-spec =
     mul-committed-if
     array-copy-out-committed-if
     committed-if-requires
-    with-requires
+    mul-marked
+    array-set-from-marked
     add-i
     loop-less
     loop-again
