@@ -29,17 +29,17 @@ module _ (e : Event) (s : State) (n : ℕ) (places : List Slot) (fits : n ≤ le
   count = count-used places n fits
 
   -- no place is free in progress
-  pub decided-full : 8 ≤ n → Decides e s (used places n) (record { verdict = Hold; weighed = 0 })
+  pub decided-full : 8 ≤ n → Decides e s (used places n) n (record { verdict = Hold; weighed = 0 })
   unfolding decide
   decided-full h = record { free = λ v. absurd (false≢true v); decided = λ g. rw (count, le-leb 8 n h) }
 
   -- else the ends decide
   pub decided-ends : n < 8 → (r : Spread) → Spreads s (used places n) r
-      → Decides e s (used places n) (record { verdict = verdictBy (everyEnd e (r .ends)) (someEnd e (r .ends)); weighed = r .ends .outcomes })
+      → Decides e s (used places n) n (record { verdict = verdictBy (everyEnd e (r .ends)) (someEnd e (r .ends)); weighed = r .ends .outcomes })
   unfolding decide weigh
   decided-ends h r spreads =
       record {
-        free = λ v. rw count h;
+        free = λ v. h;
         decided = λ g.
             let a : Answering s (used places n) (r .ends) = spreads .answers (spreads .guards ∙ g) in
             rw (count, lt-leb 8 n h, by-tests (everyEnd e (r .ends)) (someEnd e (r .ends)), a .all e, a .any e, a .count);

@@ -12,7 +12,7 @@ use Rattle.rule.specs.Rule as rule
 use Rattle.rule.specs.Weigh.{decide, decideBehind}
 use Rattle.rule.specs.Weigh as rule-weigh
 use Rattle.rule.specs.Step.{Step, after, still, drainBy, drain, settle, askedBy, asked}
-use Rattle.rule.specs.Order.{staysHeld, oldestUndecided}
+use Rattle.rule.specs.Order.{guarded, oldestUndecided}
 use Rattle.account.specs.declared.Event.{Event}
 use Rattle.account.specs.declared.State.{State}
 use Rattle.account.specs.declared.Decision.{Decision}
@@ -163,6 +163,22 @@ module _ (s : State) (ps : List RuleSlot) where
         ∙ ap (after es)
         (sym (ap (drain panel s ps) e ∙ drain-by rest
         ∙ by-other (w .verdict) (w .weighed) rest (λ (progress : List RuleSlot). drain panel s progress rest) h))
+
+-- on the way through the requests held: the events in progress and the entries then, and that the rest of the way leads where the whole way does
+pub record Draining (s : State) (held events : List RuleSlot) (written : List RuleEntry) (progress : Row) (entries : Entries) (rest : List RuleSlot) : Type 0 where
+  pub events′ : List RuleSlot
+  pub written′ : List RuleEntry
+  pub row : progress ≡ rowOf events′
+  pub list : entries ≡ entriesOf written′
+  pub guards : guarded panel s [] events′ ≡ true
+  pub same : after written′ (drain panel s events′ rest) ≡ after written (drain panel s events held)
+
+-- on the way through the events in progress
+pub record Settling (s : State) (events held : List RuleSlot) (written : List RuleEntry) (now : State) (entries : Entries) (rest : List RuleSlot) : Type 0 where
+  pub written′ : List RuleEntry
+  pub list : entries ≡ entriesOf written′
+  pub guards : guarded panel now [] rest ≡ true
+  pub same : after written′ (settle panel now rest held) ≡ after written (settle panel s events held)
 
 -- the steps of `settle`
 module _ (s : State) (hs : List RuleSlot) where

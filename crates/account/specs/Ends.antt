@@ -64,12 +64,12 @@ pub record Spreads (s : State) (xs : List RuleSlot) (r : Spread) : Type 0 where
   pub guards : r .guarded ≡ guarded panel s [] xs
   pub answers : r .guarded ≡ true → Answering s xs (r .ends)
 
--- a decision: to accept only where a place is free; and the rule's, where each event in progress finds its guard
-pub record Decides (e : Event) (s : State) (xs : List RuleSlot) (r : Weighing) : Type 0 where
-  pub free : isAccept (r .verdict) ≡ true → length xs < 8
+-- a decision on a request, with so many events in progress: to accept only where a place is free; and the rule's, where each event in progress finds its guard
+pub record Decides (e : Event) (s : State) (xs : List RuleSlot) (progressing : ℕ) (r : Weighing) : Type 0 where
+  pub free : isAccept (r .verdict) ≡ true → progressing < 8
   pub decided : guarded panel s [] xs ≡ true → weighingOf r ≡ decide panel e s xs
 
 -- the same behind the requests held
-pub record DecidesBehind (requests : List RuleSlot) (e : Event) (s : State) (xs : List RuleSlot) (r : Weighing) : Type 0 where
-  pub free : isAccept (r .verdict) ≡ true → length xs < 8
+pub record DecidesBehind (requests : List RuleSlot) (e : Event) (s : State) (xs : List RuleSlot) (progressing : ℕ) (r : Weighing) : Type 0 where
+  pub free : isAccept (r .verdict) ≡ true → progressing < 8
   pub decided : guarded panel s [] xs ≡ true → weighingOf r ≡ decideBehind panel requests e s xs

@@ -18,7 +18,7 @@ use crate::weighing::effect;
 ghost use mathlib.Core.Path.{_≡_};
 ghost use mathlib.Core.Bool.{true};
 ghost use mathlib.Core.List.{List, []};
-ghost use Prim.Native.Nat.{_+_, _-_, _≤_, _<_};
+ghost use Prim.Native.Nat.{_+_, _≤_, _<_};
 ghost use lib.ListN.{length};
 ghost use Rattle.rule.specs.Rule.{request, commit, abort};
 ghost use Rattle.rule.specs.Order.{guarded};
@@ -29,7 +29,7 @@ ghost use Rattle.account.specs.Order.{orderOf};
 ghost use Rattle.account.specs.Ends.{DecidesBehind};
 ghost use Rattle.account.specs.Clauses.{isAccept, listed};
 ghost use Rattle.account.specs.Steps.{RuleEntry, entriesOf, stepOf, refusedBy};
-ghost use Rattle.account.specs.Rows.{listOf, listFrom, rowOf};
+ghost use Rattle.account.specs.Rows.{listOf, rowOf};
 ghost use Rattle.account.specs.Taken.{takenAs, undecidedSlot, Joined, Seeks};
 
 // What an account has of a transaction: its rows, whether it is in progress or held, whether it is held, whether it is committed, and its place.
@@ -87,7 +87,6 @@ impl Account {
         settle(
             state,
             progress.marked(transaction),
-            0,
             held,
             Entries::only(entry),
         )
@@ -114,7 +113,6 @@ impl Account {
         settle(
             state,
             progress.without(transaction),
-            0,
             held.without(transaction),
             Entries::only(entry),
         )
@@ -215,7 +213,7 @@ fn ask(
 // The decision on a request behind those held: held with 0 if there are any.
 fn decide_behind(holding: usize, progress: Row, state: State, event: Event) -> Weighing
     requires { ⌜ progress .count ≤ 8 ⌝ }
-    ensures { λ r. ⌜ ((requests : List RuleSlot) → holding ≡ length requests → DecidesBehind requests event state (listOf progress) r) ⌝ }
+    ensures { λ r. ⌜ ((requests : List RuleSlot) → holding ≡ length requests → DecidesBehind requests event state (listOf progress) (progress .count) r) ⌝ }
 {
     let slots = progress.slots;
     if holding == 0 {
@@ -228,48 +226,48 @@ fn decide_behind(holding: usize, progress: Row, state: State, event: Event) -> W
     }
 }
 
-// What follows every commit and abort, from the place `first` in progress on: the committed oldest are applied, then the requests held are looked at.
-fn settle(state: State, progress: Row, first: usize, held: Row, entries: Entries) -> Called
-    requires { ⌜ (first ≤ progress .count) × (progress .count ≤ 8) × (held .count ≤ 8) × (entries .count + (progress .count - first) + held .count ≤ 17) ⌝ }
-    ensures { λ r. ⌜ ((written : List RuleEntry) → entries ≡ entriesOf written → guarded panel state [] (listFrom first progress) ≡ true → r ≡ takenAs (rule.after written (rule.settle panel state (listFrom first progress) (listOf held)))) ⌝ }
+// What follows every commit and abort: the committed oldest are applied, then the requests held are looked at.
+fn settle(state: State, progress: Row, held: Row, entries: Entries) -> Called
+    requires { ⌜ (progress .count ≤ 8) × (held .count ≤ 8) × (entries .count + progress .count + held .count ≤ 17) ⌝ }
+    ensures { λ r. ⌜ ((written : List RuleEntry) → entries ≡ entriesOf written → guarded panel state [] (listOf progress) ≡ true → r ≡ takenAs (rule.after written (rule.settle panel state (listOf progress) (listOf held)))) ⌝ }
 {
-    if progress.settled(first) {
-        return drain(state, progress.after(first), held, 0, entries);
-    }
     let slots = progress.slots;
-    let slot = slots[first];
-    let event = slot.event;
-    let next = effect(event, state);
-    let entry = Entry::applied(slot, next.balance);
-    settle(next, progress, first + 1, held, entries.with(entry))
+    let mut settled = state;
+    let mut told = entries;
+    let mut first = 0;
+    while !progress.settled(first) {
+        let slot = slots[first];
+        let event = slot.event;
+        settled = effect(event, settled);
+        told = told.with(Entry::applied(slot, settled.balance));
+        first += 1;
+    }
+    drain(settled, progress.after(first), held, told)
 }
 
-// The requests held are weighed, from the place `first` on, until one stays held.
-fn drain(state: State, progress: Row, held: Row, first: usize, entries: Entries) -> Called
-    requires { ⌜ (first ≤ held .count) × (progress .count ≤ 8) × (held .count ≤ 8) × (entries .count + (held .count - first) ≤ 17) ⌝ }
-    ensures { λ r. ⌜ ((events : List RuleSlot) (written : List RuleEntry) → progress ≡ rowOf events → entries ≡ entriesOf written → guarded panel state [] events ≡ true → r ≡ takenAs (rule.after written (rule.drain panel state events (listFrom first held)))) ⌝ }
+// The requests held are weighed, the oldest first, until one stays held.
+fn drain(state: State, progress: Row, held: Row, entries: Entries) -> Called
+    requires { ⌜ (progress .count ≤ 8) × (held .count ≤ 8) × (entries .count + held .count ≤ 17) ⌝ }
+    ensures { λ r. ⌜ ((events : List RuleSlot) (written : List RuleEntry) → progress ≡ rowOf events → entries ≡ entriesOf written → guarded panel state [] events ≡ true → r ≡ takenAs (rule.after written (rule.drain panel state events (listOf held)))) ⌝ }
 {
-    if first == held.count {
-        return taken(state, progress, held.after(first), entries);
-    }
     let slots = held.slots;
-    let slot = slots[first];
-    let event = slot.event;
-    let places = progress.slots;
-    let weighing = decide(places, progress.count, state, event);
-    let verdict = weighing.verdict;
-    let stays = is_hold(verdict);
-    if stays {
-        return taken(state, progress, held.after(first), entries);
+    let mut joining = progress;
+    let mut told = entries;
+    let mut first = 0;
+    while first < held.count {
+        let slot = slots[first];
+        let event = slot.event;
+        let places = joining.slots;
+        let weighing = decide(places, joining.count, state, event);
+        let verdict = weighing.verdict;
+        if is_hold(verdict) {
+            return taken(state, joining, held.after(first), told);
+        }
+        joining = joined(joining, slot, verdict);
+        told = told.with(Entry::voted(slot, weighing));
+        first += 1;
     }
-    let progress = joined(progress, slot, verdict);
-    drain(
-        state,
-        progress,
-        held,
-        first + 1,
-        entries.with(Entry::voted(slot, weighing)),
-    )
+    taken(state, joining, held.after(first), told)
 }
 
 // The events in progress after a vote on a request: the request is one of them if it was accepted.

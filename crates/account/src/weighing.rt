@@ -142,7 +142,7 @@ impl Ends {
 // The decision on a request as if nothing were held: held with 0 where no place is free in progress, else weighed at the ends of the outcomes.
 pub(crate) fn decide(progress: [Slot; 8], progressing: usize, s: State, e: Event) -> Weighing
     requires { ⌜ progressing ≤ 8 ⌝ }
-    ensures { λ r. ⌜ Decides e s (used progress progressing) r ⌝ }
+    ensures { λ r. ⌜ Decides e s (used progress progressing) progressing r ⌝ }
 {
     if Account::PROGRESS <= progressing {
         return Weighing {

@@ -59,12 +59,10 @@ joined-requires c κs =
     let start = c .before .before .before .before .before in
     let args = start .args in
     let w = c .before .before .before .before .decide-behind in
-    let size : length (args .progress .slots) ≡ 8 = as-many (args .progress .slots) (start .good .1 .0 .1 .1 .0 .1 .0 .1) in
     let sizeHeld : length (args .held .slots) ≡ 8 = as-many (args .held .slots) (start .good .1 .1 .0 .1 .1 .0 .1 .0 .1) in
-    let many : length (listOf (args .progress)) ≡ args .progress .count = count-used (args .progress .slots) (args .progress .count) (omega arith) in
     let waits : length (listOf (args .held)) ≡ args .held .count = count-used (args .held .slots) (args .held .count) (omega arith) in (
       omega arith,
-      λ v. rw many at (w .ensures (listOf (args .held)) (sym waits) .free v),
+      λ v. w .ensures (listOf (args .held)) (sym waits) .free v,
     )
 
 taken-requires-2 : tie.Need-taken-requires-2

@@ -55,8 +55,8 @@ loop-again c =
     let next : v .i + 1 - a .oldest ≡ v .i - a .oldest + 1 = omega (arith, v .inv .0) in (
       omega (arith, v .inv .0),
       rw next
-      (row-with (row (v .younger) (v .i - a .oldest)) (getD (a .self .slots) (v .i) blank) (usedFrom (a .oldest) (v .i) (a .self .slots)) (omega (arith, v .inv .0)) (v .inv .1)
-      ∙ ap rowOf (from-more (a .oldest) (a .self .slots) (v .i) (omega (arith, v .inv .0)) (v .inv .0 .0))),
+          (row-with (row (v .younger) (v .i - a .oldest)) (getD (a .self .slots) (v .i) blank) (usedFrom (a .oldest) (v .i) (a .self .slots)) (omega (arith, v .inv .0)) (v .inv .1)
+          ∙ ap rowOf (from-more (a .oldest) (a .self .slots) (v .i) (omega (arith, v .inv .0)) (v .inv .0 .0))),
     )
 
 sub-t20 : tie.Need-sub-t20 Inv-loop μ-loop
