@@ -20,7 +20,7 @@ use Rattle.account.specs.Panel.{panel}
 use Rattle.account.specs.Places.{RuleSlot, slotOf, listsOf}
 use Rattle.account.specs.Order.{orderOf}
 use Rattle.account.specs.Steps.{refusedBy, stepOf}
-use Rattle.account.specs.Rows.{listOf, rowOf}
+use Rattle.account.specs.Rows.{row, listOf, rowOf}
 use Rattle.account.specs.Taken.{takenAs, Seeks}
 use Rattle.account.proofs.Rows.{row-list, row-count}
 use Rattle.account.proofs.Guarded.{marked-guarded, without-guarded}
@@ -50,17 +50,17 @@ module _ (a : Account) (t : ℕ) (s : Sought) (seeks : Seeks a t s) (ok : orderO
   marked : (b : Bool) → s .committed ≡ b → some-of (namedCommitted t) (listsOf a .progress) ≡ b
   marked b h = sym (seeks .committed) ∙ h
 
-  holding : s .held .count ≡ length (listsOf a .held)
-  holding = row-count (s .held) (listsOf a .held) (seeks .held)
+  holding : a .holding ≡ length (listsOf a .held)
+  holding = row-count (row (a .held) (a .holding)) (listsOf a .held) (seeks .held)
 
   module _ (e : Event) where
     pub request-6 : s .named ≡ true → refusedBy a 6 ≡ stepOf a (rule.request t g e)
     request-6 h = refused-step a (rule.request t g e) ok 6 (rw (sought true h))
 
-    pub request-7 : s .named ≡ false → 8 ≤ s .held .count → refusedBy a 7 ≡ stepOf a (rule.request t g e)
+    pub request-7 : s .named ≡ false → 8 ≤ a .holding → refusedBy a 7 ≡ stepOf a (rule.request t g e)
     request-7 h k = refused-step a (rule.request t g e) ok 7 (rw (sought false h, le-leb 8 (length (listsOf a .held)) (rw holding at k)))
 
-    pub request-taken : s .named ≡ false → s .held .count < 8 → takenAs (asked panel (listsOf a) t g e) ≡ stepOf a (rule.request t g e)
+    pub request-taken : s .named ≡ false → a .holding < 8 → takenAs (asked panel (listsOf a) t g e) ≡ stepOf a (rule.request t g e)
     request-taken h k = taken-step a (rule.request t g e) ok (rw (sought false h, lt-leb 8 (length (listsOf a .held)) (rw holding at k)))
 
   pub commit-8 : s .named ≡ false → refusedBy a 8 ≡ stepOf a (rule.commit t g)
@@ -85,33 +85,33 @@ module _ (a : Account) (t : ℕ) (s : Sought) (seeks : Seeks a t s) (ok : orderO
   abort-taken h l = taken-step a (rule.abort t g) ok (rw (sought true h, marked false l))
 
   -- what settling the marked rows, or the rows without the transaction, gives is the rule's
-  marked-list : (made : Row) → made ≡ rowOf (mark t (listOf (s .progress))) → listOf made ≡ mark t (listsOf a .progress)
-  marked-list made e = row-list made (mark t (listOf (s .progress))) e ∙ ap (mark t) (row-list (s .progress) (listsOf a .progress) (seeks .progress))
+  marked-list : (made : Row) → made ≡ rowOf (mark t (listOf (row (a .progress) (a .progressing)))) → listOf made ≡ mark t (listsOf a .progress)
+  marked-list made e = row-list made (mark t (listOf (row (a .progress) (a .progressing)))) e ∙ ap (mark t) (row-list (row (a .progress) (a .progressing)) (listsOf a .progress) (seeks .progress))
 
-  without-list : (made : Row) → made ≡ rowOf (without t (listOf (s .progress))) → listOf made ≡ without t (listsOf a .progress)
-  without-list made e = row-list made (without t (listOf (s .progress))) e ∙ ap (without t) (row-list (s .progress) (listsOf a .progress) (seeks .progress))
+  without-list : (made : Row) → made ≡ rowOf (without t (listOf (row (a .progress) (a .progressing)))) → listOf made ≡ without t (listsOf a .progress)
+  without-list made e = row-list made (without t (listOf (row (a .progress) (a .progressing)))) e ∙ ap (without t) (row-list (row (a .progress) (a .progressing)) (listsOf a .progress) (seeks .progress))
 
   -- each event in progress still finds its guard
-  pub committed-guarded : (made : Row) → made ≡ rowOf (mark t (listOf (s .progress))) → guarded panel (a .state) [] (listOf made) ≡ true
+  pub committed-guarded : (made : Row) → made ≡ rowOf (mark t (listOf (row (a .progress) (a .progressing)))) → guarded panel (a .state) [] (listOf made) ≡ true
   committed-guarded made e = rw (marked-list made e) (marked-guarded a ok t)
 
-  pub aborted-guarded : s .committed ≡ false → (made : Row) → made ≡ rowOf (without t (listOf (s .progress))) → guarded panel (a .state) [] (listOf made) ≡ true
+  pub aborted-guarded : s .committed ≡ false → (made : Row) → made ≡ rowOf (without t (listOf (row (a .progress) (a .progressing)))) → guarded panel (a .state) [] (listOf made) ≡ true
   aborted-guarded l made e = rw (without-list made e) (without-guarded a ok t (marked false l))
 
-  pub committed-rows : (made : Row) → made ≡ rowOf (mark t (listOf (s .progress)))
-      → takenAs (after (rule.noted t g ∷ []) (settle panel (a .state) (listOf made) (listOf (s .held)))) ≡ takenAs (committing panel (listsOf a) t g)
+  pub committed-rows : (made : Row) → made ≡ rowOf (mark t (listOf (row (a .progress) (a .progressing))))
+      → takenAs (after (rule.noted t g ∷ []) (settle panel (a .state) (listOf made) (listOf (row (a .held) (a .holding))))) ≡ takenAs (committing panel (listsOf a) t g)
   unfolding committing listsOf
   committed-rows made e =
       ap₂ (λ (ps hs : List RuleSlot). takenAs (after (rule.noted t g ∷ []) (settle panel (a .state) ps hs)))
       (marked-list made e)
-      (row-list (s .held) (listsOf a .held) (seeks .held))
+      (row-list (row (a .held) (a .holding)) (listsOf a .held) (seeks .held))
 
-  pub aborted-rows : (made kept : Row) → made ≡ rowOf (without t (listOf (s .progress))) → kept ≡ rowOf (without t (listOf (s .held))) → s .named ≡ true
+  pub aborted-rows : (made kept : Row) → made ≡ rowOf (without t (listOf (row (a .progress) (a .progressing)))) → kept ≡ rowOf (without t (listOf (row (a .held) (a .holding)))) → s .named ≡ true
       → takenAs (after (dropping (slotOf (s .slot)) ∷ []) (settle panel (a .state) (listOf made) (listOf kept))) ≡ takenAs (aborting panel (listsOf a) t)
   unfolding aborting listsOf
   aborted-rows made kept e f h =
       ap₂ (λ (ps hs : List RuleSlot). takenAs (after (dropping (slotOf (s .slot)) ∷ []) (settle panel (a .state) ps hs)))
       (without-list made e)
-      (row-list kept (without t (listOf (s .held))) f ∙ ap (without t) (row-list (s .held) (listsOf a .held) (seeks .held)))
+      (row-list kept (without t (listOf (row (a .held) (a .holding)))) f ∙ ap (without t) (row-list (row (a .held) (a .holding)) (listsOf a .held) (seeks .held)))
       ∙ ap (λ (xs : List RuleSlot). takenAs (after (map dropping xs) (settle panel (a .state) (without t (listsOf a .progress)) (without t (listsOf a .held)))))
       (sym (seeks .slot h))

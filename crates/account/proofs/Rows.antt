@@ -24,10 +24,6 @@ use Rattle.account.proofs.Slices.{usedFrom, used-end, used-next, used-m
 row-path : {a b : Row} → a .slots ≡ b .slots → a .count ≡ b .count → a ≡ b
 row-path p q = λ i. record { slots = p i; count = q i }
 
--- these places, so many of them used
-abbrev pub row : List Slot → ℕ → Row
-row slots count = record { slots = slots; count = count }
-
 -- a row of a list, with one place more
 pub row-with : (row : Row) (place : Slot) (xs : List RuleSlot) → row .count < room → row ≡ rowOf xs
     → _≡_ {A = Row} (record { slots = set (row .slots) (row .count) place; count = row .count + 1 }) (rowOf (xs ++ (slotOf place ∷ [])))

@@ -15,6 +15,10 @@ use Rattle.account.specs.Panel.{room}
 use Rattle.account.specs.Places.{RuleSlot, slotOf, placeOf, blank, used, padded}
 use Rattle.account.specs.Order.{isUndecided}
 
+-- the row of these places, so many of them used
+abbrev pub row : List Slot → ℕ → Row
+row slots count = record { slots = slots; count = count }
+
 -- the used places,
 abbrev pub listOf : Row → List RuleSlot
 listOf row = used (row .slots) (row .count)

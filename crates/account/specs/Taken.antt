@@ -21,7 +21,7 @@ use Rattle.account.specs.declared.steps.Sought.{Sought}
 use Rattle.account.specs.declared.weighing.Verdict.{Verdict}
 use Rattle.account.specs.Places.{RuleSlot, slotOf, listsOf, accountOf}
 use Rattle.account.specs.Weighing.{verdictOf}
-use Rattle.account.specs.Rows.{rowOf}
+use Rattle.account.specs.Rows.{row, rowOf}
 use Rattle.account.specs.Steps.{RuleEntry, entryOf, entriesOf}
 
 abbrev pub RuleStep : Type 0
@@ -56,12 +56,12 @@ pub record Joined (progress : Row) (place : Slot) (verdict : Verdict) (r : Row) 
   pub within : r .count ≤ 8
   pub list : (ps : List RuleSlot) → progress ≡ rowOf ps → r ≡ rowOf (joinedBy (verdictOf verdict) ps (undecidedSlot place))
 
--- what an account in order has of a transaction: its rows, and what refusals 6 to 11 and an abort ask
+-- what an account in order has of a transaction: its rows are its lists', and what refusals 6 to 11 and an abort ask
 pub record Seeks (a : Account) (t : ℕ) (r : Sought) : Type 0 where
-  pub progress : r .progress ≡ rowOf (listsOf a .progress)
-  pub held : r .held ≡ rowOf (listsOf a .held)
-  pub progressing : r .progress .count ≤ 8
-  pub holding : r .held .count ≤ 8
+  pub progress : row (a .progress) (a .progressing) ≡ rowOf (listsOf a .progress)
+  pub held : row (a .held) (a .holding) ≡ rowOf (listsOf a .held)
+  pub progressing : a .progressing ≤ 8
+  pub holding : a .holding ≤ 8
   pub named : r .named ≡ (some-of (rule-step.named t) (listsOf a .progress) || some-of (rule-step.named t) (listsOf a .held))
   pub waits : r .waits ≡ some-of (rule-step.named t) (listsOf a .held)
   pub committed : r .committed ≡ some-of (namedCommitted t) (listsOf a .progress)

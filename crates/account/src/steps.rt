@@ -32,10 +32,8 @@ ghost use Rattle.account.specs.Steps.{RuleEntry, entriesOf, stepOf, refu
 ghost use Rattle.account.specs.Rows.{listOf, rowOf};
 ghost use Rattle.account.specs.Taken.{takenAs, undecidedSlot, Joined, Seeks};
 
-// What an account has of a transaction: its rows, whether it is in progress or held, whether it is held, whether it is committed, and its place.
+// What an account has of a transaction: whether it is in progress or held, whether it is held, whether it is committed, and its place.
 struct Sought {
-    progress: Row,
-    held: Row,
     named: bool,
     waits: bool,
     committed: bool,
@@ -54,12 +52,20 @@ impl Account {
         if sought.named {
             return refused(self, 6);
         }
-        let state = self.state;
-        let progress = sought.progress;
-        let held = sought.held;
-        if Account::HELD <= held.count {
+        if Account::HELD <= self.holding {
             return refused(self, 7);
         }
+        let state = self.state;
+        let slots = self.progress;
+        let progress = Row {
+            slots,
+            count: self.progressing,
+        };
+        let slots = self.held;
+        let held = Row {
+            slots,
+            count: self.holding,
+        };
         ask(state, progress, held, transaction, second, event)
     }
 
@@ -82,8 +88,16 @@ impl Account {
         }
         let entry = Entry::noted(transaction, second);
         let state = self.state;
-        let progress = sought.progress;
-        let held = sought.held;
+        let slots = self.progress;
+        let progress = Row {
+            slots,
+            count: self.progressing,
+        };
+        let slots = self.held;
+        let held = Row {
+            slots,
+            count: self.holding,
+        };
         settle(
             state,
             progress.marked(transaction),
@@ -107,8 +121,16 @@ impl Account {
             return refused(self, 11);
         }
         let state = self.state;
-        let progress = sought.progress;
-        let held = sought.held;
+        let slots = self.progress;
+        let progress = Row {
+            slots,
+            count: self.progressing,
+        };
+        let slots = self.held;
+        let held = Row {
+            slots,
+            count: self.holding,
+        };
         let entry = Entry::dropped(sought.slot);
         settle(
             state,
@@ -138,8 +160,6 @@ impl Account {
         let slot = event.or(request).place();
         let waits = request.is_found();
         Sought {
-            progress,
-            held,
             named: event.is_found() | waits,
             waits,
             committed: event.is_committed(),

@@ -46,13 +46,13 @@ refused-requires-3 c κs = search needs
 
 returns-3 : tie.Need-returns-3
 returns-3 c =
-    let args = c .before .before .before .before .before .before .before .before .before .before .args in
-    let s = c .before .before .before .before .before .before .before .seek in
+    let args = c .before .before .before .before .before .before .before .args in
+    let s = c .before .before .before .before .seek in
     c .refused3 .ensures
-    ∙ request-7 (args .self) (args .transaction) (s .result) (s .ensures) (in-order (c .before .before .before .before .before .before .before .before)) (args .second) (args .event) (c .before .before .before .before .before .before .if2 .left) (c .before .if3 .taken)
+    ∙ request-7 (args .self) (args .transaction) (s .result) (s .ensures) (in-order (c .before .before .before .before .before)) (args .second) (args .event) (c .before .before .before .if2 .left) (c .before .if3 .taken)
 
 ask-requires : tie.Need-ask-requires
-ask-requires c κs = omega (arith, c .before .before .before .before .before .before .seek .ensures .progressing, c .if3 .left)
+ask-requires c κs = omega (arith, c .before .before .before .before .before .before .seek .ensures .progressing, c .before .before .before .if3 .left)
 
 returns-4 : tie.Need-returns-4
 unfolding listsOf
@@ -60,7 +60,7 @@ returns-4 c =
     let args = c .before .before .before .before .before .before .before .before .before .before .args in
     let s = c .before .before .before .before .before .before .before .seek in
     c .ask .ensures (listsOf (args .self) .progress) (listsOf (args .self) .held) (s .ensures .progress) (s .ensures .held) (order-guarded (args .self) (in-order (c .before .before .before .before .before .before .before .before)))
-    ∙ request-taken (args .self) (args .transaction) (s .result) (s .ensures) (in-order (c .before .before .before .before .before .before .before .before)) (args .second) (args .event) (c .before .before .before .before .before .before .if2 .left) (c .before .if3 .left)
+    ∙ request-taken (args .self) (args .transaction) (s .result) (s .ensures) (in-order (c .before .before .before .before .before .before .before .before)) (args .second) (args .event) (c .before .before .before .before .before .before .if2 .left) (c .before .before .before .before .if3 .left)
 
 pub request-spec : {M : Type 1} → statement M
 request-spec =

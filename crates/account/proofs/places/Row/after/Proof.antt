@@ -6,10 +6,10 @@ use borrow.Author.Needs.{needs}
 use native.Mathlib.Omega.{arith}
 use lib.ListN.{length, getD}
 use Rattle.account.specs.Places.{blank}
-use Rattle.account.specs.Rows.{rowOf}
+use Rattle.account.specs.Rows.{row, rowOf}
 use Rattle.account.proofs.Padded.{as-many}
 use Rattle.account.proofs.Slices.{usedFrom}
-use Rattle.account.proofs.Rows.{row, row-with, from-none, from-more}
+use Rattle.account.proofs.Rows.{row-with, from-none, from-more}
 use Rattle.account.proofs.places.Row.after.Statement.{statement}
 use Rattle.account.proofs.places.Row.after.Tie as tie
 

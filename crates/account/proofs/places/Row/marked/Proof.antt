@@ -7,9 +7,9 @@ use native.Mathlib.Omega.{arith}
 use lib.ListN.{length}
 use Rattle.rule.specs.Step.{mark}
 use Rattle.account.specs.Places.{slotOf, used}
-use Rattle.account.specs.Rows.{rowOf}
+use Rattle.account.specs.Rows.{row, rowOf}
 use Rattle.account.proofs.Padded.{as-many}
-use Rattle.account.proofs.Rows.{row, row-with, marked-more}
+use Rattle.account.proofs.Rows.{row-with, marked-more}
 use Rattle.account.proofs.places.Row.marked.Statement.{statement}
 use Rattle.account.proofs.places.Row.marked.Tie as tie
 
