@@ -29,7 +29,7 @@ ghost use Rattle.account.specs.Order.{orderOf};
 ghost use Rattle.account.specs.Ends.{DecidesBehind};
 ghost use Rattle.account.specs.Clauses.{isAccept, listed};
 ghost use Rattle.account.specs.Steps.{RuleEntry, entriesOf, stepOf, refusedBy};
-ghost use Rattle.account.specs.Rows.{listOf, rowOf};
+ghost use Rattle.account.specs.Rows.{row, listOf, rowOf};
 ghost use Rattle.account.specs.Taken.{takenAs, undecidedSlot, Joined, Seeks};
 
 // What an account has of a transaction: whether it is in progress or held, whether it is held, whether it is committed, and its place.
@@ -56,17 +56,14 @@ impl Account {
             return refused(self, 7);
         }
         let state = self.state;
-        let slots = self.progress;
-        let progress = Row {
-            slots,
-            count: self.progressing,
-        };
-        let slots = self.held;
-        let held = Row {
-            slots,
-            count: self.holding,
-        };
-        ask(state, progress, held, transaction, second, event)
+        ask(
+            state,
+            self.events(),
+            self.requests(),
+            transaction,
+            second,
+            event,
+        )
     }
 
     // A commit: refused, or noted, the event marked, and what is then decided applied and voted on.
@@ -88,20 +85,10 @@ impl Account {
         }
         let entry = Entry::noted(transaction, second);
         let state = self.state;
-        let slots = self.progress;
-        let progress = Row {
-            slots,
-            count: self.progressing,
-        };
-        let slots = self.held;
-        let held = Row {
-            slots,
-            count: self.holding,
-        };
         settle(
             state,
-            progress.marked(transaction),
-            held,
+            self.events().marked(transaction),
+            self.requests(),
             Entries::only(entry),
         )
     }
@@ -121,23 +108,35 @@ impl Account {
             return refused(self, 11);
         }
         let state = self.state;
-        let slots = self.progress;
-        let progress = Row {
-            slots,
-            count: self.progressing,
-        };
-        let slots = self.held;
-        let held = Row {
-            slots,
-            count: self.holding,
-        };
         let entry = Entry::dropped(sought.slot);
         settle(
             state,
-            progress.without(transaction),
-            held.without(transaction),
+            self.events().without(transaction),
+            self.requests().without(transaction),
             Entries::only(entry),
         )
+    }
+
+    // The events in progress.
+    fn events(self) -> Row
+        ensures { λ r. ⌜ r ≡ row (self .progress) (self .progressing) ⌝ }
+    {
+        let slots = self.progress;
+        Row {
+            slots,
+            count: self.progressing,
+        }
+    }
+
+    // The requests held.
+    fn requests(self) -> Row
+        ensures { λ r. ⌜ r ≡ row (self .held) (self .holding) ⌝ }
+    {
+        let slots = self.held;
+        Row {
+            slots,
+            count: self.holding,
+        }
     }
 
     // What the account has of a transaction.
@@ -145,18 +144,8 @@ impl Account {
         requires { ⌜ orderOf self ≡ true ⌝ }
         ensures { λ r. ⌜ Seeks self transaction r ⌝ }
     {
-        let slots = self.progress;
-        let progress = Row {
-            slots,
-            count: self.progressing,
-        };
-        let slots = self.held;
-        let held = Row {
-            slots,
-            count: self.holding,
-        };
-        let event = progress.find(transaction);
-        let request = held.find(transaction);
+        let event = self.events().find(transaction);
+        let request = self.requests().find(transaction);
         let slot = event.or(request).place();
         let waits = request.is_found();
         Sought {

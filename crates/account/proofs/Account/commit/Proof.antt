@@ -2,11 +2,12 @@
 -- Assumes nothing.
 use mathlib.Core.Bool.{true}
 use mathlib.Core.List.{[], _∷_}
-use mathlib.Core.Path.{_≡_, sym, _∙_}
+use mathlib.Core.Path.{_≡_, sym, ap, _∙_}
 use native.Mathlib.Omega.{arith}
 use borrow.Author.Needs.{needs}
 use borrow.Author.Tests.{not-true, not-false}
 use Rattle.rule.specs.Rule.{commit, noted}
+use Rattle.account.specs.declared.places.Row.{Row}
 use Rattle.account.specs.Order.{orderOf}
 use Rattle.account.specs.Steps.{RuleEntry}
 use Rattle.account.proofs.Refusals.{out-of-order, commit-8, commit-9, commit-10, commit-taken, committed-guarded, committed-rows}
@@ -64,25 +65,36 @@ returns-4 c =
 noted-requires : tie.Need-noted-requires
 noted-requires c κs = search needs
 
+events-requires : tie.Need-events-requires
+events-requires c κs = search needs
+
 marked-requires : tie.Need-marked-requires
-marked-requires c κs = c .before .before .before .before .before .before .before .before .seek .ensures .progressing
+marked-requires c κs = rw (c .events .ensures) (c .before .before .before .before .before .before .before .seek .ensures .progressing)
+
+requests-requires : tie.Need-requests-requires
+requests-requires c κs = search needs
 
 only-requires : tie.Need-only-requires
 only-requires c κs = search needs
 
 settle-requires : tie.Need-settle-requires
-settle-requires c κs = omega (arith, c .before .before .before .before .before .before .before .before .before .before .seek .ensures .progressing, c .before .before .before .before .before .before .before .before .before .before .seek .ensures .holding, c .before .marked .ensures .within, c .only .ensures .count)
+settle-requires c κs =
+    let s = c .before .before .before .before .before .before .before .before .before .before .seek in
+    let events : c .before .before .before .events .result .count ≡ c .before .before .before .before .before .before .before .before .before .before .before .before .before .args .self .progressing = ap (λ (r : Row). r .count) (c .before .before .before .events .ensures) in
+    let requests : c .before .requests .result .count ≡ c .before .before .before .before .before .before .before .before .before .before .before .before .before .args .self .holding = ap (λ (r : Row). r .count) (c .before .requests .ensures) in
+    omega (arith, s .ensures .progressing, s .ensures .holding, c .before .before .marked .ensures .within, c .only .ensures .count)
 
 returns-5 : tie.Need-returns-5
 returns-5 c =
     let args = c .before .before .before .before .before .before .before .before .before .before .before .before .before .before .args in
     let s = c .before .before .before .before .before .before .before .before .before .before .before .seek in
     let ok = in-order (c .before .before .before .before .before .before .before .before .before .before .before .before) in
-    let made = c .before .before .marked in
+    let made = c .before .before .before .marked in
+    let rows = rw (c .before .before .before .before .events .ensures) at (made .ensures .list) in
     let entry : RuleEntry = noted (args .transaction) (args .second) in
     c .settle .ensures (entry ∷ []) (c .before .only .ensures .list entry (c .before .before .before .before .before .before .noted .ensures))
-    (committed-guarded (args .self) (args .transaction) (s .result) (s .ensures) ok (args .second) (made .result) (made .ensures .list))
-    ∙ committed-rows (args .self) (args .transaction) (s .result) (s .ensures) ok (args .second) (made .result) (made .ensures .list)
+    (committed-guarded (args .self) (args .transaction) (s .result) (s .ensures) ok (args .second) (made .result) rows)
+    ∙ rw (c .before .before .requests .ensures) (committed-rows (args .self) (args .transaction) (s .result) (s .ensures) ok (args .second) (made .result) rows)
     ∙ commit-taken (args .self) (args .transaction) (s .result) (s .ensures) ok (args .second) (not-false (s .result .named) (c .before .before .before .before .before .before .before .before .before .if2 .left)) (c .before .before .before .before .before .before .before .before .if3 .left) (c .before .before .before .before .before .before .before .if4 .left)
 
 pub commit-spec : {M : Type 1} → statement M
@@ -100,7 +112,9 @@ commit-spec =
     refused-requires-4
     returns-4
     noted-requires
+    events-requires
     marked-requires
+    requests-requires
     only-requires
     settle-requires
     returns-5)

@@ -51,15 +51,22 @@ returns-3 c =
     c .refused3 .ensures
     ∙ request-7 (args .self) (args .transaction) (s .result) (s .ensures) (in-order (c .before .before .before .before .before)) (args .second) (args .event) (c .before .before .before .if2 .left) (c .before .if3 .taken)
 
+events-requires : tie.Need-events-requires
+events-requires c κs = search needs
+
+requests-requires : tie.Need-requests-requires
+requests-requires c κs = search needs
+
 ask-requires : tie.Need-ask-requires
-ask-requires c κs = omega (arith, c .before .before .before .before .before .before .seek .ensures .progressing, c .before .before .before .if3 .left)
+ask-requires c κs =
+    rw (c .requests .ensures, c .before .events .ensures) (omega (arith, c .before .before .before .before .before .before .seek .ensures .progressing, c .before .before .before .if3 .left))
 
 returns-4 : tie.Need-returns-4
 unfolding listsOf
 returns-4 c =
     let args = c .before .before .before .before .before .before .before .before .before .before .args in
     let s = c .before .before .before .before .before .before .before .seek in
-    c .ask .ensures (listsOf (args .self) .progress) (listsOf (args .self) .held) (s .ensures .progress) (s .ensures .held) (order-guarded (args .self) (in-order (c .before .before .before .before .before .before .before .before)))
+    c .ask .ensures (listsOf (args .self) .progress) (listsOf (args .self) .held) (c .before .before .events .ensures ∙ s .ensures .progress) (c .before .requests .ensures ∙ s .ensures .held) (order-guarded (args .self) (in-order (c .before .before .before .before .before .before .before .before)))
     ∙ request-taken (args .self) (args .transaction) (s .result) (s .ensures) (in-order (c .before .before .before .before .before .before .before .before)) (args .second) (args .event) (c .before .before .before .before .before .before .if2 .left) (c .before .before .before .before .if3 .left)
 
 pub request-spec : {M : Type 1} → statement M
@@ -74,5 +81,7 @@ request-spec =
     returns-2
     refused-requires-3
     returns-3
+    events-requires
+    requests-requires
     ask-requires
     returns-4)

@@ -22,11 +22,17 @@ in-order c =
     let a = c .args .self in
     ordered a (as-many (a .progress) (c .good .0 .1 .1 .1 .0 .1 .0 .1)) (as-many (a .held) (c .good .0 .1 .1 .1 .1 .1 .0 .1 .0 .1)) (c .pre)
 
+events-requires : tie.Need-events-requires
+events-requires c κs = search needs
+
 find-requires : tie.Need-find-requires
-find-requires c κs = in-order (c .before .before) .progressing
+find-requires c κs = rw (c .events .ensures) (in-order (c .before) .progressing)
+
+requests-requires : tie.Need-requests-requires
+requests-requires c κs = search needs
 
 find-requires-2 : tie.Need-find-requires-2
-find-requires-2 c κs = in-order (c .before .before .before) .holding
+find-requires-2 c κs = rw (c .requests .ensures) (in-order (c .before .before .before) .holding)
 
 or-requires : tie.Need-or-requires
 or-requires c κs = search needs
@@ -48,9 +54,9 @@ returns c =
     let start = c .before .before .before .before .before .before .before .before .before in
     let a = start .args .self in
     let ok = in-order start in
-    let event = c .before .before .before .before .before .before .find in
+    let event = c .before .before .before .before .before .before .before .find in
     let request = c .before .before .before .before .before .find2 in
-    let l = looked a (start .args .transaction) (event .result) (request .result) (ok .transactions) (event .ensures) (request .ensures) in
+    let l = looked a (start .args .transaction) (event .result) (request .result) (ok .transactions) (rw (c .before .before .before .before .before .before .before .before .events .ensures) at (event .ensures)) (rw (c .before .before .before .before .before .before .requests .ensures) at (request .ensures)) in
     let first = c .before .before .before .before .or in
     let waits : c .before .before .is-found .result ≡ some-of (named (start .args .transaction)) (listsOf a .held) = c .before .before .is-found .ensures ∙ l .onHold in
     let both = ap₂ (λ (x y : Bool). x || y) (c .before .is-found2 .ensures ∙ l .inProgress) waits in
@@ -73,7 +79,9 @@ pub seek-spec : {M : Type 1} → statement M
 seek-spec =
     tie.close
     (tie.spec
+    events-requires
     find-requires
+    requests-requires
     find-requires-2
     or-requires
     place-requires
