@@ -8,7 +8,7 @@ use independent::run::{room, run};
 use independent::workload::{accepted, steady, undecided, IN_PROGRESS};
 use std::process::ExitCode;
 
-const USAGE: &str = "benchmark [--rounds N] [--messages N] [--ticks N] [--seed N]";
+const USAGE: &str = "benchmark [--rounds N] [--messages N] [--ticks N] [--seed N] [--profile N]";
 
 /// What the command line asks for.
 struct Options {
@@ -16,6 +16,8 @@ struct Options {
     messages: u32,
     ticks: u64,
     seed: u64,
+    /// For a profiler: one run of the proved register with so many events in progress, and no tables.
+    profile: Option<u32>,
 }
 
 /// Prints the tables; status 1 where the versions differ.
@@ -25,6 +27,11 @@ fn main() -> ExitCode {
         return ExitCode::from(2);
     };
     print_head();
+    if let Some(in_progress) = options.profile {
+        let stream = steady(in_progress, options.messages / 2);
+        println!("{} messages met", proved::run(&stream, &mut room(&stream)).met);
+        return ExitCode::SUCCESS;
+    }
     let throughput = print_throughput(&options);
     print_growth(&options);
     let contention = print_contention(&options);
@@ -37,7 +44,7 @@ fn main() -> ExitCode {
 
 /// Reads the options; none where they cannot be understood.
 fn options(mut words: impl Iterator<Item = String>) -> Option<Options> {
-    let mut options = Options { rounds: 9, messages: 20_000, ticks: 100_000, seed: 1 };
+    let mut options = Options { rounds: 9, messages: 20_000, ticks: 100_000, seed: 1, profile: None };
     while let Some(word) = words.next() {
         let number: u64 = words.next()?.parse().ok()?;
         match word.as_str() {
@@ -45,6 +52,7 @@ fn options(mut words: impl Iterator<Item = String>) -> Option<Options> {
             "--messages" => options.messages = number.clamp(2, 10_000_000) as u32,
             "--ticks" => options.ticks = number,
             "--seed" => options.seed = number,
+            "--profile" => options.profile = Some(number.min(8) as u32),
             _ => return None,
         }
     }
