@@ -148,6 +148,15 @@ module _ (s : State) (n : ℕ) (places : List Slot) (at : ℕ) (d : Slot) (more 
   pub guarded-stop : every (guardOf (x .event)) (outcomes panel before s) ≡ false → false ≡ rule-order.guarded panel s before (usedFrom at n places)
   guarded-stop h = rw (step, h)
 
+-- with nothing in progress and nothing held the clauses ask for the state alone
+pub order-idle : (s : State) → stateFits s ≡ rule-order.order panel (listed s [] [])
+unfolding rule-order.order
+order-idle s = go (stateFits s)
+  where
+    go : (b : Bool) → b ≡ (b && true && true && true && true && true)
+    go true = refl
+    go false = refl
+
 -- the clauses together; the last is asked where the events in progress find their guards
 pub order-lists : (s : State) (xs ys : List RuleSlot) → length xs ≤ 8 → length ys ≤ 8
     → (last : Bool) → (rule-order.guarded panel s [] xs ≡ true → last ≡ rule-order.oldestStaysHeld panel s xs ys)

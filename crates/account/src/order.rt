@@ -44,7 +44,7 @@ impl Account {
     }
 }
 
-// Whether the used places keep the rule's clauses.
+// Whether the used places keep the rule's clauses; with nothing in progress and nothing held only the state has to.
 fn lists_in_order(
     s: State,
     progress: [Slot; 8],
@@ -55,6 +55,9 @@ fn lists_in_order(
     requires { ⌜ (progressing ≤ 8) × (holding ≤ 8) ⌝ }
     ensures { λ r. ⌜ r ≡ rule.order panel (listed s (used progress progressing) (used held holding)) ⌝ }
 {
+    if progressing + holding == 0 {
+        return fits(s);
+    }
     fits(s)
         & (apart(progress, progressing, held, holding) & apart(held, holding, held, 0))
         & without_decision(held, holding)
