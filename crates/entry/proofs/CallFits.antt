@@ -1,38 +1,41 @@
--- A call's entries are its own, then those of the events applied, then votes. There are at most as many applied as events were in progress, and at
--- most as many votes as requests were held; an event or a request that is dropped is not among them. By induction on both lists.
+-- A call's entries are its own, then those of the events applied, then votes, as the rule's law on the shape of a call says. There are at most as many applied as
+-- events were in progress, and at most as many votes as requests were held; an event or a request that is dropped is not among them.
 -- Assumes nothing.
 use Prim.Native.Nat.{ℕ, suc, _+_, _*_, _-_, _≤_}
 use native.Mathlib.Nat.{mul-suc}
 use native.Mathlib.Omega.{arith}
 use mathlib.Core.Path.{_≡_, refl, _∙_}
-use mathlib.Core.Bool.{Bool, true, false, cond, _&&_, not}
+use mathlib.Core.Bool.{Bool, true, false, cond}
 use mathlib.Core.List.{List, [], _∷_, _++_, map, map-append}
 use mathlib.Core.Option.{Option, none, some}
-use borrow.Author.Tests.{leb-true, ltb-false, le-ltb}
-use lib.Dec.{leb, ltb, lit≤}
-use lib.ListN.{length, drop, replicate, length-append, length-map, length-take}
+use borrow.Author.Tests.{ltb-false, le-ltb}
+use lib.Dec.{ltb, lit≤}
+use lib.ListN.{length, replicate, length-append, length-map, length-take}
 use lib.Seq.{take-at}
-use Rattle.rule.specs.Lists.{every, keep}
 use Rattle.rule.specs.Rule as rule
-use Rattle.rule.specs.Rule.{Rule, Slot, slot, undecided, committed, Verdict, accept, reject, hold}
+use Rattle.rule.specs.Rule.{Rule, Verdict, accept, reject, hold}
 use Rattle.rule.specs.Outcome.{outcomes}
-use Rattle.rule.specs.Weigh.{weigh, decide, decideBehind}
+use Rattle.rule.specs.Weigh.{weigh, decide}
 use Rattle.rule.specs.Order as rule-order
-use Rattle.rule.specs.Step.{Step, named, mark, markOne, without, dropping, applications, settledState, unsettled, drainBy, drain, settle, asked, committing, aborting, step}
+use Rattle.rule.specs.Step.{settle, committing, step}
 use Rattle.rule.specs.Call as call
+use Rattle.rule.specs.Written.{OnlyApplied, OnlyDecided, Following, Shape}
+use Rattle.rule.proofs.Order.{order-clauses}
+use Rattle.rule.proofs.Written.{step-shape}
 use Rattle.account.specs.declared.Event.{Event}
 use Rattle.account.specs.declared.Slot.{Slot as Place}
 use Rattle.account.specs.declared.Account.{Account}
-use Rattle.account.specs.Panel.{panel, room, bench, effectOf}
+use Rattle.account.specs.Panel.{panel, effectOf}
 use Rattle.account.specs.Places.{RuleAccount, listsOf, accountOf, used}
-use Rattle.account.specs.Order.{orderOf, isBlank}
+use Rattle.account.specs.Order.{orderOf}
 use Rattle.account.specs.Steps.{RuleEntry, entryOf, votedAs, entriesOf, blankEntry, most, stepOf, calledBy}
+use Rattle.account.proofs.Clauses.{order-counts}
+use Rattle.account.proofs.Ordered.{order-rule}
 use Rattle.layout.specs.Fields.{rowOf}
 use Rattle.layout.specs.Answers.{given, wroteOver, refusedWith}
 use Rattle.entry.specs.Bytes.{entryRows, lengthOfTold, bytesOfEntries, wholesOf, listOf}
 use Rattle.entry.specs.Answers.{longestCall, writeOf}
 use Rattle.entry.specs.Longest.{CallFits, CallsFit, CallsRefused, fullAccount, LongestThereIs}
-use Rattle.entry.proofs.Booleans.{both}
 use Rattle.entry.proofs.Stored.{length-entries, wholes-append}
 
 -- at most so many entries, in at most so many bytes
@@ -69,93 +72,66 @@ vote-size accept e n = refl
 vote-size reject e n = refl
 vote-size hold e n = refl
 
-dropped-within : (xs : List (Slot ℕ Event)) → Within (map dropping xs) (length xs) (16 * length xs)
+-- entries of events applied, and votes
+applied-within : (xs : List RuleEntry) → OnlyApplied xs → Within xs (length xs) (20 * length xs)
 unfolding lengthOfTold rowOf entryRows
-dropped-within [] = within-none 0 0
-dropped-within (slot t g e d ∷ xs) = within-next (rule.dropped t g e) (map dropping xs) 16 (length xs) refl (dropped-within xs)
+applied-within [] h = within-none 0 0
+applied-within (rule.voted v t g e n ∷ xs) h = absurd h
+applied-within (rule.noted t g ∷ xs) h = absurd h
+applied-within (rule.applied t g e b ∷ xs) h = within-next (rule.applied t g e b) xs 20 (length xs) refl (applied-within xs h)
+applied-within (rule.dropped t g e ∷ xs) h = absurd h
 
--- what is kept and what is not make up the whole
-kept : {A : Type 0} (p : A → Bool) (xs : List A) → length (keep p xs) + length (keep (λ (x : A). not (p x)) xs) ≡ length xs
-kept p [] = refl
-kept {A} p (x ∷ xs) = go (p x) (kept p xs)
-  where
-    go : (b : Bool) → length (keep p xs) + length (keep (λ (y : A). not (p y)) xs) ≡ length xs
-        → length (cond b (x ∷ keep p xs) (keep p xs)) + length (cond (not b) (x ∷ keep (λ (y : A). not (p y)) xs) (keep (λ (y : A). not (p y)) xs)) ≡ suc (length xs)
-    go true h = omega arith
-    go false h = omega arith
+decided-within : (xs : List RuleEntry) → OnlyDecided xs → Within xs (length xs) (18 * length xs)
+decided-within [] h = within-none 0 0
+decided-within (rule.voted accept t g e n ∷ xs) h = within-next (rule.voted accept t g e n) xs 18 (length xs) (vote-size accept e n) (decided-within xs h)
+decided-within (rule.voted reject t g e n ∷ xs) h = within-next (rule.voted reject t g e n) xs 18 (length xs) (vote-size reject e n) (decided-within xs h)
+decided-within (rule.voted hold t g e n ∷ xs) h = absurd h
+decided-within (rule.noted t g ∷ xs) h = absurd h
+decided-within (rule.applied t g e b ∷ xs) h = absurd h
+decided-within (rule.dropped t g e ∷ xs) h = absurd h
+
+-- those behind a call's own
+following-within : (most-applied most-decided : ℕ) (xs : List RuleEntry) → Following most-applied most-decided xs
+    → Within xs (most-applied + most-decided) (20 * most-applied + 18 * most-decided)
+following-within p d xs f =
+    let first = f .applications in
+    let then = f .decisions in
+    rw (f .split)
+    (within-more (first ++ then) (length first + length then) (20 * length first + 18 * length then) (p + d) (20 * p + 18 * d)
+    (within-append first then (length first) (20 * length first) (length then) (18 * length then) (applied-within first (f .only-applied)) (decided-within then (f .only-decided)))
+    (omega (arith, f .few, f .fewDecided)) (omega (arith, f .few, f .fewDecided)))
+
+-- a call by its shape
+shape-within : {S : Type 0} (a : rule.Account ℕ S Event) (m : rule.Message ℕ Event) (xs : List RuleEntry) → length (a .progress) ≤ 8 → length (a .held) ≤ 8
+    → Shape a m xs → Within xs most longestCall
+unfolding lengthOfTold rowOf entryRows
+shape-within a (rule.request t g e) xs p h s =
+    let own = rule.voted (s .0) t g e (s .1) in
+    rw (s .2) (within-more (own ∷ []) (1 + 0) (18 + 0) most longestCall (within-one own [] 18 0 0 (vote-size (s .0) e (s .1)) (within-none 0 0)) (lit≤ tt) (lit≤ tt))
+shape-within a (rule.commit t g) xs p h s =
+    let n = length (a .progress) in
+    let k = length (a .held) in
+    rw (s .1)
+    (within-more (rule.noted t g ∷ s .0) (1 + (n + k)) (11 + (20 * n + 18 * k)) most longestCall
+    (within-one (rule.noted t g) (s .0) 11 (n + k) (20 * n + 18 * k) refl (following-within n k (s .0) (s .2))) (omega arith) (omega arith))
+shape-within a (rule.abort t g) xs p h s =
+    let n = s .3 in
+    let k = s .4 in
+    rw (s .5)
+    (within-more (rule.dropped t (s .0) (s .1) ∷ s .2) (1 + (n + k)) (16 + (20 * n + 18 * k)) most longestCall
+    (within-one (rule.dropped t (s .0) (s .1)) (s .2) 16 (n + k) (20 * n + 18 * k) refl (following-within n k (s .2) (s .6)))
+    (omega (arith, s .7, s .8, s .9)) (omega (arith, s .7, s .8, s .9)))
 
 module _ {S : Type 0} (R : Rule S Event ℕ) where
-  applied-within : (s : S) (xs : List (Slot ℕ Event)) → Within (applications R s xs) (length xs) (20 * length xs)
-  unfolding lengthOfTold rowOf entryRows
-  applied-within s [] = within-none 0 0
-  applied-within s (slot t g e undecided ∷ xs) = within-none _ _
-  applied-within s (slot t g e committed ∷ xs) =
-      let next = R .effect e s in
-      within-next (rule.applied t g e (R .shown next)) (applications R next xs) 20 (length xs) refl (applied-within next xs)
-
-  drained : (v : Verdict) (n : ℕ) (x : Slot ℕ Event) (s : S) (progress held : List (Slot ℕ Event)) (rest : List (Slot ℕ Event) → Step ℕ S Event ℕ)
-      → ((p : List (Slot ℕ Event)) → Within (rest p .entries) (length held) (18 * length held))
-      → Within (drainBy v n x s progress held rest .entries) (length (x ∷ held)) (18 * length (x ∷ held))
-  drained accept n (slot t g e d) s progress held rest h =
-      let next = progress ++ (slot t g e undecided ∷ []) in
-      within-next (rule.voted accept t g e n) (rest next .entries) 18 (length held) (vote-size accept e n) (h next)
-  drained reject n (slot t g e d) s progress held rest h =
-      within-next (rule.voted reject t g e n) (rest progress .entries) 18 (length held) (vote-size reject e n) (h progress)
-  drained hold n (slot t g e d) s progress held rest h = within-none _ _
-
-  drain-within : (s : S) (progress held : List (Slot ℕ Event)) → Within (drain R s progress held .entries) (length held) (18 * length held)
-  drain-within s progress [] = within-none 0 0
-  drain-within s progress (slot t g e d ∷ held) =
-      drained (decide R e s progress .verdict) (decide R e s progress .weighed) (slot t g e d) s progress held
-      (λ (p : List (Slot ℕ Event)). drain R s p held) (λ p. drain-within s p held)
-
-  settle-within : (s : S) (progress held : List (Slot ℕ Event))
-      → Within (settle R s progress held .entries) (length progress + length held) (20 * length progress + 18 * length held)
-  unfolding settle
-  settle-within s progress held =
-      within-append (applications R s progress) (drain R (settledState R s progress) (unsettled progress) held .entries)
-      (length progress) (20 * length progress) (length held) (18 * length held)
-      (applied-within s progress) (drain-within (settledState R s progress) (unsettled progress) held)
-
-  step-within : (a : rule.Account ℕ S Event) (m : rule.Message ℕ Event) → length (a .progress) ≤ 8 → length (a .held) ≤ 8
-      → Within (step R a m .entries) most longestCall
-  unfolding asked committing aborting lengthOfTold rowOf entryRows
-  step-within a (rule.request t g e) p h =
-      let w = decideBehind R (a .held) e (a .state) (a .progress) in
-      within-more (rule.voted (w .verdict) t g e (w .weighed) ∷ []) (1 + 0) (18 + 0) most longestCall
-      (within-one (rule.voted (w .verdict) t g e (w .weighed)) [] 18 0 0 (vote-size (w .verdict) e (w .weighed)) (within-none 0 0)) (lit≤ tt) (lit≤ tt)
-  step-within a (rule.commit t g) p h =
-      let marked = mark t (a .progress) in
-      let n : length marked ≡ length (a .progress) = length-map (a .progress) (markOne t) in
-      let rest = settle R (a .state) marked (a .held) .entries in
-      within-more (rule.noted t g ∷ rest) (1 + (length marked + length (a .held))) (11 + (20 * length marked + 18 * length (a .held))) most longestCall
-      (within-one (rule.noted t g) rest 11 (length marked + length (a .held)) (20 * length marked + 18 * length (a .held)) refl
-      (settle-within (a .state) marked (a .held)))
-      (omega arith) (omega arith)
-  step-within a (rule.abort t g) p h =
-      let dropped-events = keep (named t) (a .progress) in
-      let dropped-requests = keep (named t) (a .held) in
-      let progress = without t (a .progress) in
-      let held = without t (a .held) in
-      let n : length dropped-events + length progress ≡ length (a .progress) = kept (named t) (a .progress) in
-      let k : length dropped-requests + length held ≡ length (a .held) = kept (named t) (a .held) in
-      let own = dropped-events ++ dropped-requests in
-      let o : length own ≡ length dropped-events + length dropped-requests = length-append dropped-events dropped-requests in
-      let rest = settle R (a .state) progress held .entries in
-      within-more (map dropping own ++ rest) (length own + (length progress + length held)) (16 * length own + (20 * length progress + 18 * length held)) most longestCall
-      (within-append (map dropping own) rest (length own) (16 * length own) (length progress + length held) (20 * length progress + 18 * length held)
-      (dropped-within own) (settle-within (a .state) progress held))
-      (omega arith) (omega arith)
-
   -- a call writes what its step does, or nothing
   call-within : (a : rule.Account ℕ S Event) (m : rule.Message ℕ Event) → length (a .progress) ≤ 8 → length (a .held) ≤ 8
-      → Within (call.written (call.call R a m .answer)) most longestCall
+      → rule-order.apart (a .progress ++ a .held) ≡ true → Within (call.written (call.call R a m .answer)) most longestCall
   unfolding call.call
-  call-within a m p h = go (call.refusal R a m)
+  call-within a m p h apart = go (call.refusal R a m) refl
     where
-      go : (refusal : Option ℕ) → Within (call.written (call.callBy refusal a (step R a m) .answer)) most longestCall
-      go (some n) = within-none most longestCall
-      go none = step-within a m p h
+      go : (refusal : Option ℕ) → call.refusal R a m ≡ refusal → Within (call.written (call.callBy refusal a (step R a m) .answer)) most longestCall
+      go (some n) e = within-none most longestCall
+      go none e = shape-within a m (step R a m .entries) p h (step-shape R a m apart e)
 
 -- the entries of a step are those of the rule's call, in their places
 pub listed : (xs : List RuleEntry) → listOf (entriesOf xs) ≡ map entryOf xs
@@ -173,20 +149,6 @@ called-entries : (a : Account) (next : RuleAccount) (answer : call.Answer ℕ Ev
 called-entries a next (call.refused n) = refl
 called-entries a next (call.taken xs) = refl
 
--- an account in order has at most eight in progress and eight held
-counts : (a : Account) → orderOf a ≡ true → (a .progressing ≤ 8) × (a .holding ≤ 8)
-unfolding orderOf
-counts a e =
-    let p = leb (a .progressing) room in
-    let h = leb (a .holding) bench in
-    let blank-progress = every isBlank (drop (a .progressing) (a .progress)) in
-    let blank-held = every isBlank (drop (a .holding) (a .held)) in
-    let s = both (p && h && blank-progress && blank-held) (rule-order.order panel (listsOf a)) e in
-    let t = both (p && h && blank-progress) blank-held (s .0) in
-    let u = both (p && h) blank-progress (t .0) in
-    let v = both p h (u .0) in
-    (leb-true (a .progressing) room (v .0), leb-true (a .holding) bench (v .1))
-
 pub calls-fit : CallsFit
 unfolding stepOf listsOf
 calls-fit a m = go (orderOf a) refl
@@ -198,7 +160,8 @@ calls-fit a m = go (orderOf a) refl
     go false e = fits-from a m [] (rw e) (within-none most longestCall)
     go true e =
         fits-from a m (call.written answer) (rw e (called-entries a (call.call panel (listsOf a) m .account) answer))
-        (call-within panel (listsOf a) m (few-used (a .progress) (a .progressing) (counts a e .0)) (few-used (a .held) (a .holding) (counts a e .1)))
+        (call-within panel (listsOf a) m (few-used (a .progress) (a .progressing) (order-counts a e .0)) (few-used (a .held) (a .holding) (order-counts a e .1))
+        (order-clauses panel (listsOf a) (order-rule a e) .transactions))
 
 pub calls-refused : CallsRefused
 unfolding writeOf
