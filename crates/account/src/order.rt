@@ -12,13 +12,11 @@ ghost use mathlib.Core.Path.{_≡_};
 ghost use mathlib.Core.Bool.{true};
 ghost use Prim.Native.Nat.{_≤_};
 ghost use lib.ListN.{drop};
-ghost use mathlib.Core.List.{[], map};
-ghost use lib.Seq.{slice};
-ghost use Rattle.rule.specs.Lists.{every, some-of};
-ghost use Rattle.rule.specs.Step.{named};
+ghost use mathlib.Core.List.{[]};
+ghost use Rattle.rule.specs.Lists.{every};
 ghost use Rattle.rule.specs.Order as rule;
 ghost use Rattle.account.specs.Panel.{panel, stateFits};
-ghost use Rattle.account.specs.Places.{slotOf, used};
+ghost use Rattle.account.specs.Places.{used};
 ghost use Rattle.account.specs.Order.{isBlank, isOpenZero, orderOf};
 ghost use Rattle.account.specs.Clauses.{isAccept, isHold, apartBeside, listed};
 
@@ -121,27 +119,24 @@ fn apart(places: [Slot; 8], count: usize, others: [Slot; 8], more: usize) -> boo
         let place = places[at];
         let transaction = place.transaction;
         at += 1;
-        if named_from(places, at, count, transaction) | named_from(others, 0, more, transaction) {
-            return false;
+        let mut behind = at;
+        while behind < count {
+            let other = places[behind];
+            if transaction == other.transaction {
+                return false;
+            }
+            behind += 1;
+        }
+        let mut beside = 0;
+        while beside < more {
+            let other = others[beside];
+            if transaction == other.transaction {
+                return false;
+            }
+            beside += 1;
         }
     }
     true
-}
-
-// Whether one of the used places from this one on is that transaction's.
-fn named_from(places: [Slot; 8], from: usize, count: usize, transaction: u32) -> bool
-    requires { ⌜ (from ≤ count) × (count ≤ 8) ⌝ }
-    ensures { λ r. ⌜ r ≡ some-of (named transaction) (map slotOf (slice from count places)) ⌝ }
-{
-    let mut at = from;
-    while at < count {
-        let place = places[at];
-        if transaction == place.transaction {
-            return true;
-        }
-        at += 1;
-    }
-    false
 }
 
 // Whether no used place is decided.
