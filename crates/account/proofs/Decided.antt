@@ -3,7 +3,7 @@
 use Prim.Native.Nat.{ℕ, _≤_, _<_}
 use mathlib.Core.Path.{_≡_, refl, sym, _∙_}
 use mathlib.Core.Bool.{Bool, true, false, cond, false≢true}
-use mathlib.Core.List.{List}
+use mathlib.Core.List.{List, []}
 use native.Mathlib.Omega.{arith}
 use lib.ListN.{length}
 use borrow.Author.Tests.{le-leb, lt-leb}
@@ -29,13 +29,13 @@ module _ (e : Event) (s : State) (n : ℕ) (places : List Slot) (fits : n ≤ le
   count = count-used places n fits
 
   -- no place is free in progress
-  pub decided-full : 8 ≤ n → Decides e s (used places n) n (record { verdict = Hold; weighed = 0 })
+  pub decided-full : 8 ≤ n → Decides [] e s (used places n) n (record { verdict = Hold; weighed = 0 })
   unfolding decide
   decided-full h = record { free = λ v. absurd (false≢true v); decided = λ g. rw (count, le-leb 8 n h) }
 
   -- else the ends decide
   pub decided-ends : n < 8 → (r : Spread) → Spreads s (used places n) r
-      → Decides e s (used places n) n (record { verdict = verdictBy (everyEnd e (r .ends)) (someEnd e (r .ends)); weighed = r .ends .outcomes })
+      → Decides [] e s (used places n) n (record { verdict = verdictBy (everyEnd e (r .ends)) (someEnd e (r .ends)); weighed = r .ends .outcomes })
   unfolding decide weigh
   decided-ends h r spreads =
       record {

@@ -80,5 +80,5 @@ module _ (e : Event) (s : State) where
   joined-guarded ps w d k t g = joined-by (w .verdict) ps (accepted-every w e s ps d) k t g
 
   -- the decision on a row that is its list's
-  pub decided-row : (row : Row) (ps : List RuleSlot) → row ≡ rowOf ps → (n : ℕ) (w : Weighing) → Decides e s (listOf row) n w → guarded panel s [] ps ≡ true → weighingOf w ≡ decide panel e s ps
+  pub decided-row : (row : Row) (ps : List RuleSlot) → row ≡ rowOf ps → (n : ℕ) (w : Weighing) → Decides [] e s (listOf row) n w → guarded panel s [] ps ≡ true → weighingOf w ≡ decide panel e s ps
   decided-row row ps p n w d g = rw (row-list row ps p) at (d .decided (rw (row-list row ps p) g))

@@ -9,6 +9,7 @@ use mathlib.Core.List.{List, [], _∷_, _++_}
 use native.Mathlib.Omega.{arith}
 use lib.ListN.{length}
 use lib.Pow.{pow-mono}
+use borrow.Author.Tests.{not-true}
 use Rattle.rule.specs.Lists.{every, some-of}
 use Rattle.rule.specs.Rule as rule
 use Rattle.rule.specs.Outcome.{undecidedOf, outcomes}
@@ -182,10 +183,6 @@ span-none s =
 -- the guard fails
 abbrev fails : Event → State → Bool
 fails e s = not (guardOf e s)
-
-not-true : (b : Bool) → not b ≡ true → b ≡ false
-not-true true k = absurd (false≢true k)
-not-true false k = refl
 
 module _ (s : State) (xs : List RuleSlot) (x : Ends) (h : Span s xs x) where
   -- a guard that holds at every end holds in every outcome

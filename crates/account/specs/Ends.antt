@@ -8,7 +8,7 @@ use mathlib.Core.List.{List, []}
 use lib.ListN.{length}
 use Rattle.rule.specs.Lists.{every, some-of}
 use Rattle.rule.specs.Outcome.{outcomes}
-use Rattle.rule.specs.Weigh.{decide, decideBehind}
+use Rattle.rule.specs.Weigh.{decideBehind}
 use Rattle.rule.specs.Order.{guarded}
 use Rattle.account.specs.declared.Event.{Event}
 use Rattle.account.specs.declared.Event.the-variants.{Open, Withdraw, Deposit, Close}
@@ -17,7 +17,7 @@ use Rattle.account.specs.declared.State.{State}
 use Rattle.account.specs.declared.weighing.Ends.{Ends}
 use Rattle.account.specs.declared.weighing.Spread.{Spread}
 use Rattle.account.specs.declared.weighing.Weighing.{Weighing}
-use Rattle.account.specs.Panel.{guardOf, effectOf, panel}
+use Rattle.account.specs.Panel.{guardOf, effectOf, panel, room}
 use Rattle.account.specs.Places.{RuleSlot}
 use Rattle.account.specs.Order.{isUndecided}
 use Rattle.account.specs.Weighing.{weighingOf}
@@ -64,12 +64,7 @@ pub record Spreads (s : State) (xs : List RuleSlot) (r : Spread) : Type 0 where
   pub guards : r .guarded ≡ guarded panel s [] xs
   pub answers : r .guarded ≡ true → Answering s xs (r .ends)
 
--- a decision on a request, with so many events in progress: to accept only where a place is free; and the rule's, where each event in progress finds its guard
-pub record Decides (e : Event) (s : State) (xs : List RuleSlot) (progressing : ℕ) (r : Weighing) : Type 0 where
-  pub free : isAccept (r .verdict) ≡ true → progressing < 8
-  pub decided : guarded panel s [] xs ≡ true → weighingOf r ≡ decide panel e s xs
-
--- the same behind the requests held
-pub record DecidesBehind (requests : List RuleSlot) (e : Event) (s : State) (xs : List RuleSlot) (progressing : ℕ) (r : Weighing) : Type 0 where
-  pub free : isAccept (r .verdict) ≡ true → progressing < 8
+-- a decision on a request behind those held, with so many events in progress: to accept only where a place is free; and the rule's, where each event in progress finds its guard
+pub record Decides (requests : List RuleSlot) (e : Event) (s : State) (xs : List RuleSlot) (progressing : ℕ) (r : Weighing) : Type 0 where
+  pub free : isAccept (r .verdict) ≡ true → progressing < room
   pub decided : guarded panel s [] xs ≡ true → weighingOf r ≡ decideBehind panel requests e s xs

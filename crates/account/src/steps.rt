@@ -26,7 +26,7 @@ ghost use Rattle.rule.specs.Step as rule;
 ghost use Rattle.account.specs.Panel.{panel};
 ghost use Rattle.account.specs.Places.{RuleSlot, slotOf};
 ghost use Rattle.account.specs.Order.{orderOf};
-ghost use Rattle.account.specs.Ends.{DecidesBehind};
+ghost use Rattle.account.specs.Ends.{Decides};
 ghost use Rattle.account.specs.Clauses.{isAccept, listed};
 ghost use Rattle.account.specs.Steps.{RuleEntry, entriesOf, stepOf, refusedBy};
 ghost use Rattle.account.specs.Rows.{row, listOf, rowOf};
@@ -222,7 +222,7 @@ fn ask(
 // The decision on a request behind those held: held with 0 if there are any.
 fn decide_behind(holding: usize, progress: Row, state: State, event: Event) -> Weighing
     requires { ⌜ progress .count ≤ 8 ⌝ }
-    ensures { λ r. ⌜ ((requests : List RuleSlot) → holding ≡ length requests → DecidesBehind requests event state (listOf progress) (progress .count) r) ⌝ }
+    ensures { λ r. ⌜ ((requests : List RuleSlot) → holding ≡ length requests → Decides requests event state (listOf progress) (progress .count) r) ⌝ }
 {
     let slots = progress.slots;
     if holding == 0 {

@@ -7,6 +7,7 @@ use crate::Slot;
 use crate::State;
 ghost use mathlib.Core.Path.{_≡_};
 ghost use mathlib.Core.Bool.{true};
+ghost use mathlib.Core.List.{[]};
 ghost use Prim.Native.Nat.{_≤_};
 ghost use Rattle.account.specs.Panel.{isNew, isOpened, guardOf, tableEffect, effectOf};
 ghost use Rattle.account.specs.Places.{used};
@@ -35,7 +36,7 @@ pub(crate) struct Ends {
     pub(crate) outcomes: u32,
 }
 
-// The ends of the outcomes of the events in progress, and whether each event finds its guard true in every outcome of those before it; where one does not, the ends are those before it.
+// The ends of the outcomes of the events in progress, and whether each event finds its guard true in every outcome of those before it; where one does not, the ends say nothing.
 pub(crate) struct Spread {
     pub(crate) guarded: bool,
     pub(crate) ends: Ends,
@@ -142,7 +143,7 @@ impl Ends {
 // The decision on a request as if nothing were held: held with 0 where no place is free in progress, else weighed at the ends of the outcomes.
 pub(crate) fn decide(progress: [Slot; 8], progressing: usize, s: State, e: Event) -> Weighing
     requires { ⌜ progressing ≤ 8 ⌝ }
-    ensures { λ r. ⌜ Decides e s (used progress progressing) progressing r ⌝ }
+    ensures { λ r. ⌜ Decides [] e s (used progress progressing) progressing r ⌝ }
 {
     if Account::PROGRESS <= progressing {
         return Weighing {
