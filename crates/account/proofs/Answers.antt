@@ -2,14 +2,11 @@
 -- Assumes nothing.
 use Prim.Native.Nat.{ℕ}
 use mathlib.Core.Path.{_≡_, refl, ap, ap₂}
-use mathlib.Core.Option.{Option, none, some}
 use native.Mathlib.Omega.{arith}
-use Rattle.account.specs.declared.Answer.{Answer}
 use Rattle.account.specs.declared.Answer.the-variants as Answer′
-use Rattle.account.specs.declared.Outlook.{Outlook}
 use Rattle.account.specs.declared.Outlook.the-variants as Outlook′
 use Rattle.account.specs.declared.State.{State}
-use Rattle.account.specs.Steps.{given, Told′, toldOf}
+use Rattle.account.specs.Steps.{Told′}
 use Rattle.account.specs.Answers.{AnswersApart, OutlooksApart}
 
 pub answers-apart : AnswersApart

@@ -1,18 +1,16 @@
 -- Each event in progress finds its guard: an account in order has this, and each step of a commit, an abort and a vote keeps it.
 -- Assumes nothing.
-use Prim.Native.Nat.{ℕ, _<_}
+use Prim.Native.Nat.{ℕ}
 use mathlib.Core.Path.{_≡_, refl, sym, ap, _∙_}
-use mathlib.Core.Bool.{Bool, true, false, false≢true, true≢false}
+use mathlib.Core.Bool.{true, false, true≢false}
 use mathlib.Core.List.{List, [], _∷_, _++_}
-use lib.ListN.{length}
 use Rattle.rule.specs.Rule as rule
 use Rattle.rule.specs.Lists.{every, some-of}
 use Rattle.rule.specs.Outcome.{outcomes}
 use Rattle.rule.specs.Weigh.{decide}
 use Rattle.rule.specs.Step.{mark, without}
 use Rattle.rule.specs.Call.{namedCommitted}
-use Rattle.rule.specs.Order.{guarded, order, oldestUndecided}
-use Rattle.rule.proofs.Lists.{and-right}
+use Rattle.rule.specs.Order.{guarded, oldestUndecided}
 use Rattle.rule.proofs.Ways.{every-way}
 use Rattle.rule.proofs.Safe.{Safe, safe-mark, safe-without, safe-accept, safe-guarded, guarded-safe}
 use Rattle.rule.proofs.Order.{order-clauses}

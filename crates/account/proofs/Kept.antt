@@ -1,9 +1,9 @@
 -- The rule's accounts in places: an account of lists has those lists, is in order as they are, and steps as they do; so a step leaves an account in order.
 -- Assumes nothing.
-use Prim.Native.Nat.{ℕ, zero, suc, _-_, _≤_}
-use mathlib.Core.Path.{_≡_, refl, sym, _∙_, ap}
-use mathlib.Core.Bool.{Bool, true, false, cond, _&&_}
-use mathlib.Core.List.{List, [], _∷_, _++_, map}
+use Prim.Native.Nat.{ℕ, zero, suc, _-_}
+use mathlib.Core.Path.{_≡_, refl, _∙_, ap}
+use mathlib.Core.Bool.{true, _&&_}
+use mathlib.Core.List.{List, map}
 use lib.Dec.{leb}
 use lib.ListN.{length, drop, replicate, length-map}
 use lib.Seq.{drop-at}
@@ -14,10 +14,9 @@ use Rattle.rule.specs.Order as rule-order
 use Rattle.rule.proofs.Lists.{and-left, and-right}
 use Rattle.rule.proofs.Order.{order-clauses}
 use Rattle.account.specs.declared.Event.{Event}
-use Rattle.account.specs.declared.Slot.{Slot}
 use Rattle.account.specs.declared.Account.{Account}
 use Rattle.account.specs.Panel.{room, bench, panel}
-use Rattle.account.specs.Places.{RuleSlot, RuleAccount, placeOf, blank, used, padded, listsOf, accountOf}
+use Rattle.account.specs.Places.{RuleSlot, RuleAccount, placeOf, blank, padded, listsOf, accountOf}
 use Rattle.account.specs.Order.{isBlank, orderOf}
 use Rattle.account.specs.Steps.{calledBy, stepOf}
 use Rattle.account.proofs.Padded.{lists-account}

@@ -2,7 +2,7 @@
 -- Assumes nothing.
 use Prim.Native.Nat.{ℕ, _-_, _≤_}
 use mathlib.Core.Path.{_≡_, refl, sym, ap, ap₂, _∙_}
-use mathlib.Core.Bool.{Bool, true, false, false≢true, _&&_}
+use mathlib.Core.Bool.{true, false, false≢true, _&&_}
 use mathlib.Core.List.{List, [], _∷_, _++_}
 use native.Mathlib.Omega.{arith}
 use lib.Dec.{leb, eqb}
@@ -19,7 +19,7 @@ use Rattle.account.specs.declared.Decision.the-variants.{Undecided, Comm
 use Rattle.account.specs.declared.Slot.{Slot}
 use Rattle.account.specs.declared.Account.{Account}
 use Rattle.account.specs.Panel.{panel, room, bench}
-use Rattle.account.specs.Places.{RuleAccount, blank, used, padded, listsOf, accountOf}
+use Rattle.account.specs.Places.{blank, used, padded, listsOf, accountOf}
 use Rattle.account.specs.Order.{isUndecided, isOpenZero, isBlank, orderOf}
 use Rattle.account.proofs.Padded.{places-slots}
 use Rattle.account.proofs.Slices.{count-used}

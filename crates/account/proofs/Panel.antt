@@ -2,18 +2,18 @@
 -- Assumes nothing.
 use Prim.Native.Nat.{ℕ, _+_, _-_, _≤_}
 use mathlib.Core.Path.{_≡_, refl, sym, _∙_, ap}
-use mathlib.Core.Bool.{Bool, true, false, cond, _&&_}
+use mathlib.Core.Bool.{Bool, true, cond, _&&_}
 use mathlib.Core.List.{List, [], _∷_}
 use native.Mathlib.Omega.{arith}
 use lib.Dec.{leb, eqb, lit≤}
 use borrow.Author.Tests.{leb-true, le-leb, eqb-true}
-use Rattle.rule.specs.Rule.{Rule, Slot, Account, Message, newAccount}
+use Rattle.rule.specs.Rule.{Slot, Account, Message, newAccount}
 use Rattle.rule.specs.Outcome.{outcome}
 use Rattle.rule.specs.Call.{call, reached}
 use Rattle.rule.specs.Run.{run, GuardsHold}
 use Rattle.rule.specs.Order.{Sound, InOrder, order}
 use Rattle.rule.specs.Demand.{Demand3After}
-use Rattle.rule.proofs.Lists.{and-left, and-right, and-both}
+use Rattle.rule.proofs.Lists.{and-left, and-right}
 use Rattle.rule.proofs.Safe.{Safe, outcome-agree}
 use Rattle.rule.proofs.Order.{reached-clauses, call-order}
 use Rattle.rule.proofs.Demand.{demand3}

@@ -1,17 +1,15 @@
 -- When a step is refused, both ways, and that a refusal returns the account that came in: by cases on the account's order and on the rule's refusal.
 -- Assumes nothing.
 use Prim.Native.Nat.{ℕ}
-use mathlib.Core.Path.{_≡_, refl, sym, _∙_, ap}
-use mathlib.Core.Logic.{_↔_, _⊎_, inl, inr, ⊎-elim}
-use mathlib.Core.Bool.{Bool, true, false, cond, true≢false, false≢true}
-use mathlib.Core.List.{[]}
+use mathlib.Core.Path.{_≡_, refl, ap}
+use mathlib.Core.Logic.{_↔_}
+use mathlib.Core.Bool.{Bool, true, false, cond}
 use mathlib.Core.Option.{Option, none, some}
 use native.Mathlib.Omega.{arith}
 use Rattle.rule.specs.Rule as rule
 use Rattle.rule.specs.Step as rule-step
 use Rattle.rule.specs.Call as rule-call
 use Rattle.account.specs.declared.Event.{Event}
-use Rattle.account.specs.declared.State.{State}
 use Rattle.account.specs.declared.Account.{Account}
 use Rattle.account.specs.declared.Answer.the-variants as Answer′
 use Rattle.account.specs.declared.Called.{Called}

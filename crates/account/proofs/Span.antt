@@ -3,8 +3,8 @@
 -- Assumes nothing.
 use Prim.Native.Nat.{ℕ, suc, _+_, _-_, _^_, _≤_}
 use mathlib.Core.Path.{_≡_, refl, sym, _∙_, ap}
-use mathlib.Core.Logic.{_⊎_, inl, inr, ⊎-elim}
-use mathlib.Core.Bool.{Bool, true, false, cond, _&&_, _||_, not, true≢false, false≢true}
+use mathlib.Core.Logic.{_⊎_, inl, inr}
+use mathlib.Core.Bool.{Bool, true, false, _&&_, _||_, not, true≢false}
 use mathlib.Core.List.{List, [], _∷_, _++_}
 use native.Mathlib.Omega.{arith}
 use lib.ListN.{length}
@@ -18,7 +18,7 @@ use Rattle.rule.proofs.Outcomes.{tally, no-of, twice, outcomes-length}
 use Rattle.rule.proofs.Ways.{no-zero, zero-no, Way, every-way, way-every, way-both, tally-past, tally-both}
 use Rattle.account.specs.declared.Event.{Event}
 use Rattle.account.specs.declared.Event.the-variants.{Open, Withdraw, Deposit, Close}
-use Rattle.account.specs.declared.Life.the-variants.{New, Opened, Closed}
+use Rattle.account.specs.declared.Life.the-variants.{Opened}
 use Rattle.account.specs.declared.Decision.{Decision}
 use Rattle.account.specs.declared.Decision.the-variants.{Undecided, Committed}
 use Rattle.account.specs.declared.State.{State}
@@ -27,7 +27,7 @@ use Rattle.account.specs.Panel.{guardOf, effectOf, panel}
 use Rattle.account.specs.Places.{RuleSlot, decisionOf}
 use Rattle.account.specs.Ends.{endsOf, everyEnd, someEnd, endsAfter, endsPerhaps, endsWith, Answering}
 use Rattle.account.proofs.Panel.{effect-table}
-use Rattle.account.proofs.Ends.{lifeOf, guard-life, Between, within, between-within, within-between, turned-within, guard-within, guard-none}
+use Rattle.account.proofs.Ends.{guard-life, Between, within, between-within, within-between, turned-within, guard-within, guard-none}
 
 -- an event whose guard holds at every end keeps a state within them, and its own effect there
 module _ (x : Ends) (e : Event) (all : everyEnd e x ≡ true) where

@@ -1,6 +1,6 @@
 -- A step that is taken, in places: its entries one after the other, its account, and what follows a commit or an abort, an event or a request at a time.
 -- Assumes nothing.
-use Prim.Native.Nat.{ℕ, _+_, _≤_, _<_}
+use Prim.Native.Nat.{ℕ, _+_, _<_}
 use mathlib.Core.Path.{_≡_, refl, sym, ap, _∙_}
 use mathlib.Core.List.{List, [], _∷_, _++_, append-assoc, append-nil}
 use native.Mathlib.Omega.{arith}
@@ -27,14 +27,14 @@ use Rattle.account.specs.declared.weighing.Verdict.{Verdict}
 use Rattle.account.specs.declared.weighing.Verdict.the-variants.{Accept, Reject, Hold}
 use Rattle.account.specs.declared.weighing.Weighing.{Weighing}
 use Rattle.account.specs.Panel.{effectOf, panel}
-use Rattle.account.specs.Places.{RuleSlot, RuleAccount, decisionOf, slotOf, used, accountOf}
+use Rattle.account.specs.Places.{RuleSlot, RuleAccount, decisionOf, slotOf, accountOf}
 use Rattle.account.specs.Steps.{RuleEntry, entryOf, entriesOf, most, blankEntry}
 use Rattle.account.specs.Clauses.{isAccept, isHold, listed}
 use Rattle.account.specs.Weighing.{verdictOf, weighingOf}
 use Rattle.account.specs.Rows.{rowOf}
 use Rattle.account.specs.Taken.{RuleStep, takenAs, joinedBy, undecidedSlot}
 use Rattle.account.proofs.Padded.{fill-next}
-use Rattle.account.proofs.Slices.{usedFrom, used-end, count-used}
+use Rattle.account.proofs.Slices.{usedFrom, used-end}
 
 -- entries of a list, with one more
 pub entries-with : (entries : Entries) (entry : Entry) (xs : List RuleEntry) (x : RuleEntry) → entries .count < most → entries ≡ entriesOf xs → entry ≡ entryOf x

@@ -6,7 +6,7 @@ use mathlib.Core.List.{List, [], _∷_, _++_, map}
 use Rattle.rule.specs.Lists.{numbers}
 use Rattle.rule.specs.Rule.{Message, request, commit, abort, Verdict, accept, reject, hold, Entry, voted, noted, applied, dropped, newAccount}
 use Rattle.rule.specs.Outcome.{undecidedOf, appliedIn, outcomes}
-use Rattle.rule.specs.Call.{Answer, refused, taken, written, call, reached}
+use Rattle.rule.specs.Call.{written, call, reached}
 use Rattle.account.specs.declared.Event.{Event}
 use Rattle.account.specs.declared.Event.the-variants.{Open, Withdraw, Deposit, Close}
 use Rattle.account.specs.declared.State.{State}

@@ -1,8 +1,6 @@
 -- An account in order (document 01, "Weighing a request", its last sentence).
 -- Assumes nothing.
-use Prim.Native.Nat.{ℕ}
 use mathlib.Core.Bool.{Bool, true, false, _&&_}
-use mathlib.Core.List.{List, [], _∷_}
 use lib.Dec.{leb, eqb}
 use lib.ListN.{drop}
 use Rattle.rule.specs.Lists.{every}

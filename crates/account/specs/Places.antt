@@ -1,7 +1,7 @@
 -- An account's places and its lists: the account of document 01 has 8 places in progress and 8 held, of which the first few are used; the rule's account has lists.
 -- Assumes nothing.
 use Prim.Native.Nat.{ℕ, _-_}
-use mathlib.Core.List.{List, [], _∷_, _++_, map}
+use mathlib.Core.List.{List, _++_, map}
 use lib.ListN.{length, take, replicate}
 use Rattle.rule.specs.Rule as rule
 use Rattle.account.specs.declared.Event.{Event}

@@ -1,14 +1,13 @@
 -- Demand 3 on bytes: each of the sixteen accounts is the account of lists that have been told as it sees the exchanges. A call keeps that, by cases on what was read,
 -- on the buffer's length and on the named account's answer; a sequence keeps it by induction.
 -- Assumes nothing.
-use Prim.Native.Nat.{ℕ, zero, suc, _+_, _-_, _<_, _≤_}
-use mathlib.Core.Path.{_≡_, refl, sym, _∙_, ap, ap₂}
-use mathlib.Core.Logic.{_⊎_, inl, inr, ⊎-elim}
-use mathlib.Core.Bool.{Bool, true, false, cond, _&&_, true≢false, false≢true}
-use mathlib.Core.List.{List, [], _∷_, _++_, map, append-nil, append-assoc}
+use Prim.Native.Nat.{ℕ, _+_, _-_, _<_, _≤_}
+use mathlib.Core.Path.{_≡_, refl, sym, _∙_, ap}
+use mathlib.Core.Bool.{Bool, true, false, cond, _&&_}
+use mathlib.Core.List.{List, [], _∷_, _++_, append-nil, append-assoc}
 use native.Mathlib.Omega.{arith}
 use lib.Dec.{eqb, ltb, leb, lit≤}
-use lib.ListN.{length, take, drop, getD, set, replicate, length-set, length-map, getD-replicate}
+use lib.ListN.{length, take, drop, length-set, getD-replicate}
 use lib.Seq.{take-at, getD-set-same, getD-set-other}
 use borrow.Author.Tests.{eqb-true, eqb-false, leb-true}
 use Rattle.rule.specs.Rule as rule
@@ -16,7 +15,7 @@ use Rattle.rule.specs.Call as rule-call
 use Rattle.rule.specs.History.{Seen, linesFrom}
 use Rattle.rule.specs.Demand as rule-demand
 use Rattle.rule.specs.Order as rule-order
-use Rattle.rule.specs.Says.{MessageSays, AccountSays, EntriesSay}
+use Rattle.rule.specs.Says.{MessageSays, AccountSays}
 use Rattle.rule.proofs.Lists.{and-right}
 use Rattle.rule.proofs.Reached.{Told, new-told, call-told, refusal-told}
 use Rattle.rule.proofs.Order.{rest-order, clauses-order}
@@ -29,8 +28,8 @@ use Rattle.account.specs.declared.State.{State}
 use Rattle.account.specs.declared.Account.{Account}
 use Rattle.account.specs.declared.Answer.the-variants as Step′
 use Rattle.account.specs.Panel.{limit, isNew, isOpened, guardOf, tableEffect, effectOf, panel}
-use Rattle.account.specs.Places.{RuleAccount, listsOf, accountOf}
-use Rattle.account.specs.Steps.{RuleEntry, entryOf, entriesOf, most, blankEntry, calledBy, stepOf}
+use Rattle.account.specs.Places.{RuleAccount, accountOf}
+use Rattle.account.specs.Steps.{entriesOf, calledBy, stepOf}
 use Rattle.account.proofs.Panel.{sound}
 use Rattle.account.proofs.Padded.{lists-account}
 use Rattle.account.proofs.Kept.{step-account}
@@ -48,11 +47,11 @@ use Rattle.entry.specs.Bytes.{bytesOfEntries, listOf}
 use Rattle.entry.specs.Answers.{longestCall}
 use Rattle.register.specs.declared.Register.{Register}
 use Rattle.register.specs.declared.Answer.{Answer}
-use Rattle.register.specs.declared.Answer.the-variants.{Refused, Taken}
-use Rattle.register.specs.Register.{freshRegister, nowhere, accountAt, withAccount, ruleMessage, stepBy}
+use Rattle.register.specs.declared.Answer.the-variants.{Refused}
+use Rattle.register.specs.Register.{freshRegister, nowhere, accountAt, ruleMessage, stepBy}
 use Rattle.register.specs.Call.{Result, refusedWith, afterStep, afterMessage, afterReading, callOf}
 use Rattle.register.specs.Fits.{EventFits, CommitFits, StateFits, BalanceFits}
-use Rattle.register.specs.Sequence.{Input, Exchange, after, exchanges, answerIn, seenOf, seenBy, entriesIn}
+use Rattle.register.specs.Sequence.{Input, after, exchanges, answerIn, seenOf, seenBy, entriesIn}
 use Rattle.register.specs.Demands.{ByteStrings, Demand3}
 use Rattle.entry.proofs.CallFits.{listed}
 use Rattle.register.proofs.ReadBack.{entries-back}

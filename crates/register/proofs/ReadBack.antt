@@ -1,18 +1,15 @@
 -- The entries of a call, read back from their bytes, are the entries: by induction on the entries, each by the reader's law.
 -- Assumes nothing.
-use Prim.Native.Nat.{ℕ, zero, suc, _+_, _≤_, _<_, _^_}
-use mathlib.Core.Path.{_≡_, refl, sym, _∙_, ap}
+use Prim.Native.Nat.{ℕ, zero, suc, _+_, _≤_}
+use mathlib.Core.Path.{_≡_, refl, _∙_, ap}
 use mathlib.Core.List.{List, [], _∷_, _++_, map}
 use native.Mathlib.Omega.{arith}
-use lib.ListN.{length, drop, length-append}
+use lib.ListN.{length, length-append}
 use lib.Seq.{drop-at}
 use Rattle.rule.specs.Rule as rule
 use Rattle.rule.specs.Says.{EntrySays, EntriesSay}
-use Rattle.account.specs.declared.Entry.{Entry}
-use Rattle.account.specs.declared.Event.{Event}
 use Rattle.account.specs.Panel.{panel}
 use Rattle.account.specs.Steps.{RuleEntry, entryOf}
-use Rattle.entry.specs.declared.EntryReading.the-variants.{Found, Nothing}
 use Rattle.layout.specs.Fields.{rowOf}
 use Rattle.layout.specs.Number.{numberAt}
 use Rattle.entry.specs.Bytes.{bytesOfEntry, bytesOfEntries, lengthOfTold, entryRows}
@@ -21,7 +18,7 @@ use Rattle.entry.specs.Inverse.{Writable}
 use Rattle.entry.proofs.Inverse.{reads-written}
 use Rattle.entry.proofs.Stored.{length-entry}
 use Rattle.register.specs.Fits.{EventFits, CommitFits, StateFits, BalanceFits}
-use Rattle.register.specs.Sequence.{ruleEntry, readOn, entriesFrom, entriesIn}
+use Rattle.register.specs.Sequence.{ruleEntry, entriesFrom, entriesIn}
 
 -- an entry as a value and back
 value-back : (x : RuleEntry) → ruleEntry (entryOf x) ≡ x

@@ -1,9 +1,8 @@
 -- Demand 1 on a call: by cases on what was read, on the buffer's length and on the named account's answer.
 -- Assumes nothing.
-use Prim.Native.Nat.{ℕ, _<_, _≤_}
-use mathlib.Core.Path.{_≡_, refl, sym, _∙_, ap, ap₂}
-use mathlib.Core.Logic.{_↔_}
-use mathlib.Core.Bool.{Bool, true, false, cond, true≢false, false≢true}
+use Prim.Native.Nat.{ℕ, _≤_}
+use mathlib.Core.Path.{_≡_, refl, _∙_, ap, ap₂}
+use mathlib.Core.Bool.{Bool, true, false, cond}
 use mathlib.Core.List.{List}
 use native.Mathlib.Omega.{arith}
 use lib.Dec.{ltb}
@@ -14,7 +13,6 @@ use Rattle.account.specs.declared.Account.{Account}
 use Rattle.account.specs.declared.Answer.{Answer as StepAnswer}
 use Rattle.account.specs.declared.Answer.the-variants as Step′
 use Rattle.account.specs.declared.Entries.{Entries}
-use Rattle.account.specs.Steps.{stepOf}
 use Rattle.account.proofs.Refused.{Because, disorder, rule-says, step-refused}
 use Rattle.message.specs.declared.Message.{Message}
 use Rattle.message.specs.declared.Reading.{Reading}
@@ -24,9 +22,8 @@ use Rattle.message.specs.Answers.{readOf}
 use Rattle.entry.specs.Bytes.{bytesOfEntries, listOf}
 use Rattle.entry.specs.Answers.{longestCall}
 use Rattle.register.specs.declared.Register.{Register}
-use Rattle.register.specs.declared.Answer.{Answer}
 use Rattle.register.specs.declared.Answer.the-variants.{Refused, Taken}
-use Rattle.register.specs.Register.{nowhere, accountAt, withAccount, ruleMessage, stepBy}
+use Rattle.register.specs.Register.{nowhere, accountAt, ruleMessage, stepBy}
 use Rattle.register.specs.Call.{Result, refusedWith, afterStep, afterMessage, afterReading, callOf}
 use Rattle.register.specs.Unchanged.{Refusal, Taking, Why, reading, room, disorder as out-of-order, step, Checked, AnswersApart}
 

@@ -1,11 +1,10 @@
 -- Transactions apart: what it says of one slot among others, that each step of an account keeps it, and that a transaction then names one slot.
 -- By induction on the slots.
 -- Assumes nothing.
-use Prim.Native.Nat.{ℕ, zero, suc, _+_, _≤_}
+use Prim.Native.Nat.{ℕ, suc, _+_, _≤_}
 use mathlib.Core.Path.{_≡_, refl, sym, _∙_, ap, ap₂}
-use mathlib.Core.Logic.{_⊎_, inl, inr, ⊎-elim}
 use mathlib.Core.Bool.{Bool, true, false, cond, not, _&&_, _||_, true≢false, false≢true}
-use mathlib.Core.List.{List, [], _∷_, _++_, map}
+use mathlib.Core.List.{List, [], _∷_, _++_}
 use native.Mathlib.Omega.{arith}
 use lib.Dec.{eqb}
 use lib.ListN.{length}
@@ -15,7 +14,7 @@ use Rattle.rule.specs.Rule.{Decision, undecided, committed, Slot, slot}
 use Rattle.rule.specs.Step.{named, mark, without}
 use Rattle.rule.specs.Call.{namedCommitted}
 use Rattle.rule.specs.Order.{apart}
-use Rattle.rule.proofs.Lists.{either, and-left, and-right, and-both, or-left, or-right, or-neither, some-append, keep-append, keep-none}
+use Rattle.rule.proofs.Lists.{and-left, and-right, and-both, or-left, or-right, or-neither, some-append, keep-append, keep-none}
 
 eqb-other : (a b : ℕ) → eqb a b ≡ false → eqb b a ≡ false
 eqb-other a b h = ne-eqb b a (λ e. eqb-false a b h (sym e))

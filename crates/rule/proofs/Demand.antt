@@ -1,27 +1,25 @@
 -- Demand 3, both halves, from what is kept at rest: each part of "the lines are right" is an induction on the tie between the lines and the account;
 -- that there is no entry of an end without its line is counted along the entries, each of which has one owner.
 -- Assumes nothing.
-use Prim.Native.Nat.{ℕ, zero, suc, _+_, _≤_}
-use mathlib.Core.Path.{_≡_, refl, sym, _∙_, ap, subst}
-use mathlib.Core.Logic.{_⊎_, inl, inr}
-use mathlib.Core.Bool.{Bool, true, false, cond, _&&_, true≢false, false≢true}
+use Prim.Native.Nat.{ℕ, _+_, _≤_}
+use mathlib.Core.Path.{_≡_, refl, sym, _∙_, ap}
+use mathlib.Core.Logic.{inl, inr}
+use mathlib.Core.Bool.{Bool, true, false, cond, _&&_, false≢true}
 use mathlib.Core.List.{List, [], _∷_, _++_, map}
 use native.Mathlib.Omega.{arith}
 use lib.Dec.{eqb}
-use Rattle.rule.specs.Lists.{every, keep}
-use Rattle.rule.specs.Rule.{Rule, Decision, undecided, committed, Slot, slot, Account, Message, request, commit, abort, accept, reject, hold, Verdict, Entry, voted, noted, applied, dropped, newAccount}
-use Rattle.rule.specs.Outcome.{outcomes}
+use Rattle.rule.specs.Rule.{Rule, undecided, committed, Slot, slot, Account, Message, request, commit, abort, accept, reject, hold, Verdict, Entry, voted, noted, applied, dropped, newAccount}
 use Rattle.rule.specs.Weigh.{decide}
 use Rattle.rule.specs.Call.{Answer, refused, taken, written, reached}
 use Rattle.rule.specs.Order.{oldestUndecided, oldestStaysHeld, staysHeld}
-use Rattle.rule.specs.History.{Fate, waiting, votedNo, ongoing, wasApplied, wasDropped, live, Line, line, owns, owners, touch, note, notes, begun, afterCall, Seen, history, linesFrom, allEntries, isEnd, fateBy}
+use Rattle.rule.specs.History.{Fate, waiting, votedNo, ongoing, wasApplied, wasDropped, live, Line, line, owners, touch, note, notes, begun, afterCall, Seen, history, linesFrom, allEntries, isEnd, fateBy}
 use Rattle.rule.specs.Run.{run, GuardsHold}
 use Rattle.rule.specs.Demand.{inProgress, onHold, serial, course, OneEnd, endsOwned, OnlyWaiting, endsWritten, Right, Owned, AllOwned, HistoryOwned, Demand3, Demand3After}
 use Rattle.rule.proofs.Outcomes.{total}
 use Rattle.rule.proofs.Exact.{idle-decide}
 use Rattle.rule.proofs.Safe.{Safe, safe-every}
 use Rattle.rule.proofs.Ties.{Wait, no-more, gone, waits, Live, held-then, no-then, dropped-then, going-then, Past, live-then, no-past, dropped-past, applied-past}
-use Rattle.rule.proofs.Good.{Tied, Rest}
+use Rattle.rule.proofs.Good.{Rest}
 use Rattle.rule.proofs.Reached.{history-kept}
 
 module _ {G E : Type 0} where

@@ -1,12 +1,12 @@
 -- Weighing is exact, and what the numbers of outcomes say: from the laws of numbers in a row, by cases on the two tests of `weigh`.
 -- Assumes nothing.
-use Prim.Native.Nat.{ℕ, zero, suc, _+_, _/_, _%_, _^_, _<_, _≤_}
+use Prim.Native.Nat.{ℕ, suc, _+_, _/_, _%_, _^_, _<_, _≤_}
 use mathlib.Core.Path.{_≡_, refl, sym, _∙_, ap, ap₂, fun-ext}
-use mathlib.Core.Logic.{_⊎_, inl, inr, ⊎-elim, _↔_}
-use mathlib.Core.Bool.{Bool, true, false, cond, _&&_, _||_, true≢false, false≢true}
-use mathlib.Core.List.{List, [], _∷_, map}
+use mathlib.Core.Logic.{_⊎_, ⊎-elim}
+use mathlib.Core.Bool.{Bool, true, false, cond, _&&_, _||_, true≢false}
+use mathlib.Core.List.{List, [], _∷_}
 use native.Mathlib.Omega.{arith}
-use lib.Dec.{eqb, leb}
+use lib.Dec.{eqb}
 use lib.Pow.{pow-pos, shr-shr}
 use lib.Count.{ones, ones-step}
 use lib.ListN.{length}
@@ -14,9 +14,9 @@ use borrow.Author.Tests.{lt-leb, le-leb}
 use Rattle.rule.specs.Lists.{every, some-of, numbers}
 use Rattle.rule.specs.Rule.{Rule, Slot, slot, undecided, committed, Verdict, accept, reject, hold}
 use Rattle.rule.specs.Outcome.{undecidedOf, appliedIn, bit, outcome, outcomes}
-use Rattle.rule.specs.Weigh.{Weighing, weigh, unweighed, decide, decideBehind}
+use Rattle.rule.specs.Weigh.{weigh, decide}
 use Rattle.rule.specs.Exact.{chosenState, guardIn, Numbered, Exact, Decided}
-use Rattle.rule.proofs.Lists.{either, every-map, some-map, every-number, number-every, some-number, no-number, number-none, fails-number, and-left}
+use Rattle.rule.proofs.Lists.{either, every-map, some-map, every-number, number-every, some-number, no-number, number-none, fails-number}
 use Rattle.rule.proofs.Outcomes.{twice, outcomes-length}
 
 bit-zero : (n : ℕ) → bit n 0 ≡ eqb (n % 2) 1

@@ -8,14 +8,14 @@ use mathlib.Core.Option.{Option, none, some}
 use lib.Dec.{eqb, leb}
 use lib.ListN.{length, length-map}
 use Rattle.rule.specs.Lists.{some-of, keep, numbers}
-use Rattle.rule.specs.Rule.{Rule, Decision, undecided, committed, Slot, slot, Account, Message, request, commit, abort, Verdict, accept, reject, hold, Entry, voted, noted, applied, dropped, newAccount}
+use Rattle.rule.specs.Rule.{Rule, undecided, committed, Slot, slot, Account, Message, request, commit, abort, Verdict, accept, reject, hold, Entry, voted, applied, dropped, newAccount}
 use Rattle.rule.specs.Outcome.{undecidedOf, outcome, outcomes}
-use Rattle.rule.specs.Weigh.{Weighing, unweighed, weigh, decide, decideBehind}
-use Rattle.rule.specs.Step.{Step, named, markOne, mark, without, dropping, after, settledState, applications, unsettled, drainBy, askedBy, drain, settle, asked, committing, aborting, step}
-use Rattle.rule.specs.Call.{namedCommitted, refusal, Answer, refused, taken, Called, callBy, call, reached}
+use Rattle.rule.specs.Weigh.{unweighed, weigh, decide, decideBehind}
+use Rattle.rule.specs.Step.{Step, named, mark, without, dropping, after, settledState, applications, unsettled, drainBy, askedBy, drain, settle, asked, committing, aborting, step}
+use Rattle.rule.specs.Call.{namedCommitted, refusal, Called, callBy, call, reached}
 use Rattle.rule.specs.History.{Seen, history}
 use Rattle.rule.specs.Filed.{slotThrough, messageThrough, entryThrough, answerThrough, seenThrough, accountThrough, NeverLooked, NeverSeen}
-use Rattle.rule.proofs.Lists.{map-append, some-map}
+use Rattle.rule.proofs.Lists.{map-append}
 
 module _ {G H E : Type 0} (f : G → H) where
   undecided-through : (xs : List (Slot G E)) → undecidedOf (map (slotThrough f) xs) ≡ undecidedOf xs

@@ -2,31 +2,28 @@
 -- undecided and its oldest held request stays held. Each message that is taken leads from one account at rest to the next, and every entry on the way has its owner.
 -- Settling goes by induction on the events in progress, draining by induction on the requests held.
 -- Assumes nothing.
-use Prim.Native.Nat.{ℕ, zero, suc, _+_, _≤_, _<_}
-use mathlib.Core.Path.{_≡_, refl, sym, _∙_, ap, ap₂, subst}
-use mathlib.Core.Logic.{_⊎_, inl, inr, ⊎-elim}
-use mathlib.Core.Bool.{Bool, true, false, cond, not, _&&_, _||_, true≢false, false≢true}
-use mathlib.Core.List.{List, [], _∷_, _++_, map, append-assoc, append-nil}
-use mathlib.Core.Option.{Option, none, some}
+use Prim.Native.Nat.{ℕ, _+_, _≤_, _<_}
+use mathlib.Core.Path.{_≡_, refl, sym, _∙_, ap, subst}
+use mathlib.Core.Bool.{Bool, true, false, cond, _||_, false≢true}
+use mathlib.Core.List.{List, [], _∷_, _++_, append-assoc}
 use native.Mathlib.Omega.{arith}
-use lib.Dec.{eqb, leb}
-use lib.ListN.{length, length-append, length-map}
-use borrow.Author.Tests.{leb-false, eq-eqb, not-false}
-use Rattle.rule.specs.Lists.{every, some-of, keep}
-use Rattle.rule.specs.Rule.{Rule, Decision, undecided, committed, Slot, slot, Account, Message, request, commit, abort, Verdict, accept, reject, hold, Entry, voted, noted, applied, dropped}
+use lib.Dec.{leb}
+use lib.ListN.{length, length-append}
+use borrow.Author.Tests.{leb-false, eq-eqb}
+use Rattle.rule.specs.Lists.{every, some-of}
+use Rattle.rule.specs.Rule.{Rule, Decision, undecided, committed, Slot, slot, Account, Verdict, accept, reject, hold, Entry, voted, applied}
 use Rattle.rule.specs.Outcome.{outcomes}
-use Rattle.rule.specs.Weigh.{Weighing, unweighed, weigh, decide, decideBehind}
-use Rattle.rule.specs.Step.{Step, named, mark, without, dropping, after, settledState, applications, unsettled, still, drainBy, askedBy, drain, settle, asked, committing, aborting, step}
-use Rattle.rule.specs.Call.{namedCommitted, refusal, taken}
-use Rattle.rule.specs.Order.{apart, oldestUndecided, oldestStaysHeld, staysHeld}
-use Rattle.rule.specs.History.{Fate, waiting, votedNo, ongoing, wasApplied, wasDropped, Line, line, owners, note, notes, begun}
+use Rattle.rule.specs.Weigh.{unweighed, weigh, decide}
+use Rattle.rule.specs.Step.{Step, named, drainBy, drain, settle}
+use Rattle.rule.specs.Order.{apart, oldestUndecided, oldestStaysHeld}
+use Rattle.rule.specs.History.{waiting, votedNo, ongoing, Line, line, owners, note, notes}
 use Rattle.rule.specs.Run.{run}
 use Rattle.rule.specs.Demand.{appliedEvents, Owned, AllOwned}
-use Rattle.rule.proofs.Lists.{either, or-left, or-right, or-neither, or-cases, keep-none, keep-others, some-append}
-use Rattle.rule.proofs.Apart.{length-keep, apart-at, apart-snoc, apart-mark, apart-without, apart-less, apart-left, apart-right, apart-other, only-one}
-use Rattle.rule.proofs.Safe.{Safe, safe-mark, safe-without, safe-accept}
+use Rattle.rule.proofs.Lists.{or-left, or-right, keep-none, some-append}
+use Rattle.rule.proofs.Apart.{apart-at, apart-less}
+use Rattle.rule.proofs.Safe.{Safe, safe-accept}
 use Rattle.rule.proofs.Ways.{every-way}
-use Rattle.rule.proofs.Ties.{Wait, no-more, gone, waits, Live, held-then, no-then, dropped-then, going-then, Past, live-then, no-past, dropped-past, applied-past, noting, live-commit, live-drop, live-hold, live-accept, live-reject, past-noting, past-append, past-apply, past-owners, past-undecided, progressLine, heldLine}
+use Rattle.rule.proofs.Ties.{Wait, no-more, gone, waits, Live, held-then, no-then, dropped-then, going-then, Past, live-then, no-past, dropped-past, applied-past, live-accept, live-reject, past-noting, past-apply, past-owners, past-undecided}
 
 module _ {G S E B : Type 0} (R : Rule S E B) where
   pub record Tied (s : S) (progress held : List (Slot G E)) (lines : List (Line G E)) : Type 0 where

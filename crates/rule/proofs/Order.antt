@@ -1,15 +1,14 @@
 -- Every account reached from fresh is in order, and every account in order could have been reached, so that a call leaves an account in order: what is kept at rest says each clause, by its name. The state's own clause comes from the run of the events applied,
 -- each of which found its guard true.
 -- Assumes nothing.
-use Prim.Native.Nat.{ℕ, _≤_}
-use mathlib.Core.Path.{_≡_, refl, sym, _∙_, ap}
-use mathlib.Core.Bool.{Bool, true, false, _&&_, false≢true}
+use mathlib.Core.Path.{_≡_, refl}
+use mathlib.Core.Bool.{true, false, _&&_, false≢true}
 use mathlib.Core.List.{List, [], _∷_, _++_}
 use lib.Dec.{leb}
 use lib.ListN.{length}
 use borrow.Author.Tests.{le-leb, leb-true}
 use Rattle.rule.specs.Lists.{every}
-use Rattle.rule.specs.Rule.{Rule, Decision, undecided, committed, Slot, slot, Account, Message, request, commit, abort, newAccount}
+use Rattle.rule.specs.Rule.{Rule, undecided, committed, Slot, slot, Account, Message, request, commit, abort, newAccount}
 use Rattle.rule.specs.Call.{call, reached}
 use Rattle.rule.specs.Run.{run, GuardsHold}
 use Rattle.rule.specs.Order.{apart, oldestUndecided, withoutDecision, countsWithin, guarded, oldestStaysHeld, order, InOrder, Sound}
@@ -17,7 +16,7 @@ use Rattle.rule.specs.History.{waiting, ongoing, wasApplied, Line, line,
 use Rattle.rule.proofs.Lists.{and-left, and-right, and-both}
 use Rattle.rule.proofs.Safe.{safe-guarded, guarded-safe}
 use Rattle.rule.proofs.Ties.{Wait, no-more, gone, waits, Live, held-then, no-then, dropped-then, going-then, Past, live-then, no-past, dropped-past, applied-past}
-use Rattle.rule.proofs.Good.{Tied, Rest}
+use Rattle.rule.proofs.Good.{Rest}
 use Rattle.rule.proofs.Reached.{reached-rest, call-kept}
 
 module _ {G E : Type 0} where

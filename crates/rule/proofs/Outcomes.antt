@@ -1,18 +1,17 @@
 -- The numbered list of outcomes against the walk down the events, once for every measure of a state: the votes yes, the votes no and the count are three measures.
 -- At an undecided event the numbers below twice 2 to the power u are the even ones, which leave the event out, and the odd ones, which apply it.
 -- Assumes nothing.
-use Prim.Native.Nat.{ℕ, zero, suc, _+_, _*_, _/_, _%_, _^_, _<_, _≤_}
-use mathlib.Core.Path.{_≡_, refl, sym, _∙_, ap, ap₂}
+use Prim.Native.Nat.{ℕ, zero, suc, _+_, _/_, _%_, _^_}
+use mathlib.Core.Path.{_≡_, refl, _∙_, ap, ap₂}
 use mathlib.Core.Bool.{Bool, true, false, cond, _&&_, _||_, true≢false, false≢true}
-use mathlib.Core.List.{List, [], _∷_, _++_, map}
+use mathlib.Core.List.{List, [], _∷_, map}
 use native.Mathlib.Omega.{arith}
 use native.Mathlib.Nat.{pow-suc, add-zero}
 use lib.Dec.{eqb}
-use lib.Count.{ones, ones-step}
 use lib.ListN.{length, length-map}
 use Rattle.rule.specs.Lists.{every, some-of, numbers}
 use Rattle.rule.specs.Rule.{Rule, Slot, slot, undecided, committed}
-use Rattle.rule.specs.Outcome.{undecidedOf, appliedIn, bit, outcome, outcomes}
+use Rattle.rule.specs.Outcome.{undecidedOf, outcome, outcomes}
 use Rattle.rule.proofs.Lists.{length-numbers}
 
 -- a measure added up over a list

@@ -1,17 +1,17 @@
 -- Every list of messages to a new account, refused ones included, leads to an account at rest, and every entry on the way has its owner: by induction on the messages.
 -- Assumes nothing.
-use Prim.Native.Nat.{ℕ, zero}
+use Prim.Native.Nat.{ℕ}
 use mathlib.Core.Path.{_≡_, refl}
 use mathlib.Core.List.{List, [], _∷_, _++_}
 use mathlib.Core.Option.{Option, none, some}
 use native.Mathlib.Omega.{arith}
 use Rattle.rule.specs.Rule.{Rule, Account, Message, newAccount}
 use Rattle.rule.specs.Step.{step}
-use Rattle.rule.specs.Call.{Called, refusal, refused, taken, written, callBy, call, reached}
+use Rattle.rule.specs.Call.{Called, refusal, refused, written, callBy, call, reached}
 use Rattle.rule.specs.History.{Line, begun, afterCall, Seen, history, linesFrom}
 use Rattle.rule.specs.Demand.{AllOwned, HistoryOwned}
 use Rattle.rule.proofs.Ties.{no-more, held-then, live-then}
-use Rattle.rule.proofs.Good.{Tied, Rest}
+use Rattle.rule.proofs.Good.{Rest}
 use Rattle.rule.proofs.Taken.{step-good}
 
 module _ {G S E B : Type 0} (R : Rule S E B) where

@@ -1,20 +1,20 @@
 -- "Given exactly if", both ways: the refusals are chains of tests, each with its number, and two laws of a chain serve them all: a number that stands first is given exactly
 -- if its test is true, and one that stands later exactly if that test is not true and the rest of the chain gives it.
 -- Assumes nothing.
-use Prim.Native.Nat.{ℕ, _≤_}
-use mathlib.Core.Path.{_≡_, refl, sym, _∙_, ap}
+use Prim.Native.Nat.{ℕ}
+use mathlib.Core.Path.{_≡_, refl}
 use mathlib.Core.Logic.{_↔_, _⊎_, inl, inr, ⊎-elim}
-use mathlib.Core.Bool.{Bool, true, false, cond, not, _||_, true≢false, false≢true}
+use mathlib.Core.Bool.{Bool, true, false, cond, not, _||_, false≢true}
 use mathlib.Core.Option.{Option, none, some}
 use native.Mathlib.Omega.{arith}
 use lib.Dec.{leb}
 use lib.ListN.{length}
 use borrow.Author.Tests.{leb-true, le-leb}
 use Rattle.rule.specs.Lists.{some-of}
-use Rattle.rule.specs.Rule.{Rule, Account, request, commit, abort}
+use Rattle.rule.specs.Rule.{Rule, Account}
 use Rattle.rule.specs.Step.{named}
-use Rattle.rule.specs.Call.{namedCommitted, refusal}
-use Rattle.rule.specs.Refusals.{InProgress, OnHold, IsCommitted, RequestRefused, CommitRefused, AbortRefused}
+use Rattle.rule.specs.Call.{namedCommitted}
+use Rattle.rule.specs.Refusals.{RequestRefused, CommitRefused, AbortRefused}
 
 -- a test with its number in front of the rest of a chain
 abbrev pub test : Bool → ℕ → Option ℕ → Option ℕ

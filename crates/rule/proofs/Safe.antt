@@ -1,16 +1,16 @@
 -- "finds its guard true in every outcome of those before it", as a walk down the events: the guard at the head, then on with the effect,
 -- or, at an undecided event, on both ways. Each step of an account keeps it, by induction on the events; one law ties it to the numbered list.
 -- Assumes nothing.
-use Prim.Native.Nat.{ℕ, zero, suc, _+_, _/_, _%_}
-use mathlib.Core.Path.{_≡_, refl, sym, _∙_, ap}
-use mathlib.Core.Bool.{Bool, true, false, cond, not, _&&_, _||_, true≢false, false≢true}
+use Prim.Native.Nat.{ℕ, zero, _+_, _/_, _%_}
+use mathlib.Core.Path.{_≡_, refl}
+use mathlib.Core.Bool.{Bool, true, false, cond, not}
 use mathlib.Core.List.{List, [], _∷_, _++_, append-assoc, append-nil}
 use native.Mathlib.Omega.{arith}
 use lib.Dec.{eqb}
-use Rattle.rule.specs.Lists.{every, some-of, keep}
+use Rattle.rule.specs.Lists.{every, some-of}
 use Rattle.rule.specs.Rule.{Rule, Decision, undecided, committed, Slot, slot}
 use Rattle.rule.specs.Outcome.{outcome, outcomes}
-use Rattle.rule.specs.Step.{named, mark, without, settledState, unsettled}
+use Rattle.rule.specs.Step.{mark, without, settledState, unsettled}
 use Rattle.rule.specs.Call.{namedCommitted}
 use Rattle.rule.specs.Order.{guarded}
 use Rattle.rule.proofs.Lists.{and-left, and-right, and-both, or-left, or-right}

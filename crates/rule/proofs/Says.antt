@@ -1,23 +1,23 @@
 -- A call brings nothing into an account or an entry that the account and the message did not say: by induction on the slots.
 -- Assumes nothing.
-use Prim.Native.Nat.{ℕ, zero, suc, _+_, _≤_, _<_, _^_}
+use Prim.Native.Nat.{ℕ, _+_, _≤_, _^_}
 use mathlib.Core.Path.{_≡_, refl}
 use mathlib.Core.Bool.{Bool, true, false, cond, not}
 use mathlib.Core.List.{List, [], _∷_, _++_, map}
 use mathlib.Core.Option.{Option, none, some}
 use native.Mathlib.Omega.{arith}
 use native.Mathlib.Nat.{le-trans, le-of-eq}
-use lib.Dec.{eqb, leb}
+use lib.Dec.{leb}
 use lib.Pow.{pow-mono}
 use lib.ListN.{length}
 use borrow.Author.Tests.{leb-false}
 use Rattle.rule.specs.Lists.{keep}
-use Rattle.rule.specs.Rule.{Rule, undecided, committed, Slot, slot, Account, Message, request, commit, abort, Verdict, accept, reject, hold, Entry, voted, noted, applied, dropped}
+use Rattle.rule.specs.Rule.{Rule, undecided, committed, Slot, slot, Account, Message, request, commit, abort, Verdict, accept, reject, hold, Entry}
 use Rattle.rule.specs.Outcome.{undecidedOf, outcomes}
 use Rattle.rule.specs.Weigh.{unweighed, weigh, decide, decideBehind}
 use Rattle.rule.specs.Step.{Step, named, mark, without, dropping, settledState, applications, unsettled, drainBy, askedBy, drain, settle, asked, committing, aborting, step}
 use Rattle.rule.specs.Call.{written, refusal, callBy, call}
-use Rattle.rule.specs.Says.{SlotsSay, MessageSays, AccountSays, EntrySays, EntriesSay}
+use Rattle.rule.specs.Says.{SlotsSay, MessageSays, AccountSays, EntriesSay}
 use Rattle.rule.proofs.Outcomes.{outcomes-length}
 
 undecided-few : {G E : Type 0} (xs : List (Slot G E)) → undecidedOf xs ≤ length xs

@@ -1,29 +1,27 @@
 -- Each message that is taken leads from an account at rest to an account at rest, and every entry that it writes has its owner.
 -- A request is put behind the held ones and, where it is the only one, decided as the oldest of them; a commit marks and settles; an abort takes out and settles.
 -- Assumes nothing.
-use Prim.Native.Nat.{ℕ, zero, suc, _+_, _≤_, _<_}
-use mathlib.Core.Path.{_≡_, refl, sym, _∙_, ap, ap₂, subst}
+use Prim.Native.Nat.{ℕ, _+_, _<_}
+use mathlib.Core.Path.{_≡_, refl, sym, _∙_}
 use mathlib.Core.Logic.{_⊎_, inl, inr, ⊎-elim}
-use mathlib.Core.Bool.{Bool, true, false, cond, not, _&&_, _||_, true≢false, false≢true}
-use mathlib.Core.List.{List, [], _∷_, _++_, map, append-assoc}
+use mathlib.Core.Bool.{Bool, true, false, cond, not, _||_, true≢false}
+use mathlib.Core.List.{List, [], _∷_, _++_, append-assoc}
 use mathlib.Core.Option.{Option, none, some}
 use native.Mathlib.Omega.{arith}
-use lib.Dec.{eqb, leb}
+use lib.Dec.{leb}
 use lib.ListN.{length, length-append, length-map}
 use borrow.Author.Tests.{leb-false, eq-eqb}
-use Rattle.rule.specs.Lists.{some-of, keep}
-use Rattle.rule.specs.Rule.{Rule, Decision, undecided, committed, Slot, slot, Account, Message, request, commit, abort, Verdict, accept, reject, hold, Entry, voted, noted, applied, dropped}
+use Rattle.rule.specs.Lists.{some-of}
+use Rattle.rule.specs.Rule.{Rule, undecided, committed, Slot, slot, Account, Message, request, commit, abort, Verdict, accept, reject, hold, Entry, noted, dropped}
 use Rattle.rule.specs.Weigh.{decide}
-use Rattle.rule.specs.Step.{Step, named, markOne, mark, without, dropping, after, settle, asked, askedBy, committing, aborting, step}
+use Rattle.rule.specs.Step.{named, markOne, mark, without, settle, asked, askedBy, committing, aborting, step}
 use Rattle.rule.specs.Call.{namedCommitted, refusal, taken}
-use Rattle.rule.specs.Order.{apart, oldestUndecided, oldestStaysHeld}
-use Rattle.rule.specs.History.{waiting, votedNo, ongoing, wasDropped, Line, line, owners, note, notes, begun}
-use Rattle.rule.specs.Demand.{Owned, AllOwned}
-use Rattle.rule.proofs.Lists.{either, or-left, or-right, or-neither, or-cases, keep-none, keep-append, some-append}
+use Rattle.rule.specs.History.{waiting, ongoing, wasDropped, Line, line, owners, note, begun}
+use Rattle.rule.proofs.Lists.{either, or-neither, keep-none, keep-append, some-append}
 use Rattle.rule.proofs.Apart.{length-keep, apart-snoc, apart-mark, apart-without, apart-left, apart-right, apart-other, only-one}
 use Rattle.rule.proofs.Safe.{safe-mark, safe-without}
-use Rattle.rule.proofs.Ties.{live-commit, live-drop, live-hold, past-noting, past-append, past-owners, progressLine, heldLine}
-use Rattle.rule.proofs.Good.{Tied, Rest, Done, vote, oldest-owner, accepted, rejected, oldest-append, settled}
+use Rattle.rule.proofs.Ties.{live-commit, live-drop, live-hold, past-noting, past-append, past-owners}
+use Rattle.rule.proofs.Good.{Tied, Rest, Done, vote, accepted, rejected, oldest-append, settled}
 
 -- What "not refused" says, of each message.
 pub free-request : (a b c : Bool) → _≡_ {A = Option ℕ} (cond (a || b) (some 6) (cond c (some 7) none)) none → (a ≡ false) × (b ≡ false) × (c ≡ false)

@@ -2,17 +2,17 @@
 -- `Wait` what waits, with those dropped while they waited; `Live` from the first line in progress on; `Past` before it, with the state so far and the guard of each event applied.
 -- Each entry that an account writes turns such a tie into the next one, by induction on the tie.
 -- Assumes nothing.
-use Prim.Native.Nat.{ℕ, zero, suc, _+_}
-use mathlib.Core.Path.{_≡_, refl, sym, _∙_, ap}
-use mathlib.Core.Bool.{Bool, true, false, cond, not, _&&_, _||_}
+use Prim.Native.Nat.{ℕ, _+_}
+use mathlib.Core.Path.{_≡_, refl, ap}
+use mathlib.Core.Bool.{Bool, true, false, cond, not}
 use mathlib.Core.List.{List, [], _∷_, _++_, map}
-use lib.Dec.{eqb, eqb-refl}
+use lib.Dec.{eqb}
 use borrow.Author.Tests.{eq-eqb}
 use Rattle.rule.specs.Lists.{some-of, keep}
 use Rattle.rule.specs.Rule.{Rule, Decision, undecided, committed, Slot, slot}
 use Rattle.rule.specs.Step.{named, mark, without}
 use Rattle.rule.specs.History.{Fate, waiting, votedNo, ongoing, wasApplied, wasDropped, Line, line, touch, owners}
-use Rattle.rule.proofs.Lists.{or-left, or-right, keep-append}
+use Rattle.rule.proofs.Lists.{or-left, or-right}
 
 module _ {G E : Type 0} where
   pub data Wait : List (Line G E) → List (Slot G E) → Type 0 where

@@ -2,13 +2,13 @@
 -- Assumes nothing.
 use Prim.Native.Nat.{ℕ, zero, _+_}
 use mathlib.Core.Path.{_≡_, refl, sym, _∙_, ap₂}
-use mathlib.Core.Bool.{Bool, true, false, cond, not, false≢true, true≢false}
+use mathlib.Core.Bool.{Bool, true, false, cond, false≢true}
 use mathlib.Core.List.{List, [], _∷_, _++_}
 use native.Mathlib.Omega.{arith}
-use Rattle.rule.specs.Lists.{every, some-of}
+use Rattle.rule.specs.Lists.{every}
 use Rattle.rule.specs.Rule.{Rule, Slot, slot, undecided, committed}
 use Rattle.rule.specs.Outcome.{outcomes}
-use Rattle.rule.proofs.Outcomes.{tally, total, total-tally, no-of, yes-of, every-no, no-every, yes-some, some-yes}
+use Rattle.rule.proofs.Outcomes.{tally, total-tally, no-of, every-no, no-every}
 
 -- a test that holds is no vote of no, and the other way round
 pub no-zero : (b : Bool) → cond b 0 1 ≡ zero → b ≡ true

@@ -1,25 +1,23 @@
 -- What one call writes has its shape: applications and drained votes by induction on the slots; an abort of an account whose transactions are apart drops one.
 -- Assumes nothing.
-use Prim.Native.Nat.{ℕ, zero, suc, _+_, _≤_, _<_}
+use Prim.Native.Nat.{ℕ, suc, _+_, _≤_, _<_}
 use mathlib.Core.Path.{_≡_, refl, sym, _∙_, ap}
 use mathlib.Core.Logic.{_⊎_, inl, inr, ⊎-elim}
-use mathlib.Core.Bool.{Bool, true, false, cond, not, _||_, true≢false, false≢true}
+use mathlib.Core.Bool.{Bool, true, false, cond, not, true≢false}
 use mathlib.Core.List.{List, [], _∷_, _++_, map}
-use mathlib.Core.Option.{Option, none, some}
+use mathlib.Core.Option.{none}
 use native.Mathlib.Omega.{arith}
-use lib.Dec.{eqb, leb}
 use lib.ListN.{length, length-map}
 use Rattle.rule.specs.Lists.{some-of, keep}
-use Rattle.rule.specs.Rule.{Rule, undecided, committed, Slot, slot, Account, Message, request, commit, abort, Verdict, accept, reject, hold, Entry, voted, noted, applied, dropped, newAccount}
+use Rattle.rule.specs.Rule.{Rule, undecided, committed, Slot, slot, Account, Message, request, commit, abort, Verdict, accept, reject, hold, Entry, dropped, newAccount}
 use Rattle.rule.specs.Weigh.{decide, decideBehind}
-use Rattle.rule.specs.Step.{Step, named, markOne, mark, without, dropping, settledState, applications, unsettled, drainBy, drain, settle, asked, committing, aborting, step}
+use Rattle.rule.specs.Step.{named, markOne, mark, without, dropping, settledState, applications, unsettled, drainBy, drain, settle, asked, committing, aborting, step}
 use Rattle.rule.specs.Call.{namedCommitted, refusal, reached}
 use Rattle.rule.specs.Order.{apart}
 use Rattle.rule.specs.Written.{OnlyApplied, OnlyDecided, Following, Shape}
 use Rattle.rule.proofs.Lists.{either, keep-none}
 use Rattle.rule.proofs.Apart.{length-keep, apart-left, apart-right, apart-other, only-one}
 use Rattle.rule.proofs.Taken.{free-abort}
-use Rattle.rule.proofs.Good.{Tied, Rest}
 use Rattle.rule.proofs.Reached.{reached-rest}
 
 module _ {A : Type 0} (p : A → Bool) where

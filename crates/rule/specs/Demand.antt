@@ -1,15 +1,15 @@
 -- Demand 3, over what can be seen of an account: the messages sent to it and the entries written.
 -- Assumes nothing.
-use Prim.Native.Nat.{ℕ, zero, suc, _+_}
+use Prim.Native.Nat.{ℕ, _+_}
 use mathlib.Core.Path.{_≡_}
 use mathlib.Core.Logic.{_⊎_}
-use mathlib.Core.Bool.{Bool, true, false}
-use mathlib.Core.List.{List, [], _∷_, _++_, map}
+use mathlib.Core.Bool.{true}
+use mathlib.Core.List.{List, [], _∷_, _++_}
 use Rattle.rule.specs.Lists.{every}
 use Rattle.rule.specs.Rule.{Rule, Decision, undecided, committed, Slot, slot, Account, Message, Entry, voted, noted, applied, dropped, newAccount}
 use Rattle.rule.specs.Outcome.{outcomes}
 use Rattle.rule.specs.Run.{run, GuardsHold}
-use Rattle.rule.specs.Call.{Answer, written, reached}
+use Rattle.rule.specs.Call.{written, reached}
 use Rattle.rule.specs.History.{Fate, waiting, votedNo, ongoing, wasApplied, wasDropped, Line, line, owners, note, begun, afterCall, Seen, history, linesFrom, allEntries, isEnd}
 
 -- "exactly one entry of its end" for what has ended, none for anything else

@@ -7,9 +7,9 @@ use mathlib.Core.Bool.{Bool, true, false, cond}
 use mathlib.Core.List.{List, [], _∷_}
 use lib.Count.{ones}
 use lib.ListN.{length}
-use Rattle.rule.specs.Rule.{Rule, Slot, slot, undecided, committed, Verdict, accept, reject, hold}
+use Rattle.rule.specs.Rule.{Rule, Slot, slot, undecided, committed, accept, reject, hold}
 use Rattle.rule.specs.Outcome.{undecidedOf, appliedIn, bit, outcome, outcomes}
-use Rattle.rule.specs.Weigh.{weigh, unweighed, decide, decideBehind}
+use Rattle.rule.specs.Weigh.{weigh, unweighed, decideBehind}
 
 module _ {G S E B : Type 0} (R : Rule S E B) where
   -- the state after the events in progress, where `chosen i` says whether the i-th oldest undecided event, counted from 0, is applied

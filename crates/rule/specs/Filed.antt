@@ -1,10 +1,9 @@
 -- What is filed with an event never matters: put through any function, it comes out put through that function, and nothing else differs.
 -- Assumes nothing.
-use Prim.Native.Nat.{ℕ}
 use mathlib.Core.Path.{_≡_}
-use mathlib.Core.List.{List, [], _∷_, map}
+use mathlib.Core.List.{List, map}
 use Rattle.rule.specs.Rule.{Rule, Slot, slot, Account, Message, request, commit, abort, Entry, voted, noted, applied, dropped, newAccount}
-use Rattle.rule.specs.Call.{Answer, refused, taken, Called, call, reached}
+use Rattle.rule.specs.Call.{Answer, refused, taken, call, reached}
 use Rattle.rule.specs.History.{Seen, history}
 
 module _ {G H E : Type 0} (f : G → H) where

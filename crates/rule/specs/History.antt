@@ -2,13 +2,13 @@
 -- "events are told apart by their place in the message sequence. An applied or dropped entry belongs to the request that was in progress or held
 -- under its transaction on its account when the entry was written." (document 01, "Weighing a request")
 -- Assumes nothing.
-use Prim.Native.Nat.{ℕ, zero, suc, _+_}
+use Prim.Native.Nat.{ℕ, _+_}
 use mathlib.Core.Bool.{Bool, true, false, cond, _&&_}
 use mathlib.Core.List.{List, [], _∷_, _++_, map}
 use lib.Dec.{eqb}
 use Rattle.rule.specs.Lists.{keep}
-use Rattle.rule.specs.Rule.{Rule, Decision, undecided, committed, Slot, slot, Account, Message, request, commit, abort, Verdict, accept, reject, hold, Entry, voted, noted, applied, dropped, newAccount}
-use Rattle.rule.specs.Call.{Answer, refused, taken, written, Called, call}
+use Rattle.rule.specs.Rule.{Rule, Decision, undecided, committed, Account, Message, request, commit, abort, Verdict, accept, reject, hold, Entry, voted, noted, applied, dropped}
+use Rattle.rule.specs.Call.{Answer, refused, taken, written, call}
 
 -- what has become of a request
 pub data Fate : Type 0 where

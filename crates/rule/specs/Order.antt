@@ -1,6 +1,5 @@
 -- An account in order, over its lists (document 01, "An account is in order if ..", clause by clause; that blanks are blank is said where there are places).
 -- Assumes nothing.
-use Prim.Native.Nat.{ℕ}
 use mathlib.Core.Path.{_≡_}
 use mathlib.Core.Bool.{Bool, true, false, _&&_, not}
 use mathlib.Core.List.{List, [], _∷_, _++_}

@@ -3,12 +3,11 @@
 use Prim.Native.Nat.{ℕ, _≤_}
 use mathlib.Core.Path.{_≡_}
 use mathlib.Core.Logic.{_↔_, _⊎_}
-use mathlib.Core.Bool.{Bool, true, false}
-use mathlib.Core.List.{List}
-use mathlib.Core.Option.{Option, none, some}
+use mathlib.Core.Bool.{true}
+use mathlib.Core.Option.{some}
 use lib.ListN.{length}
 use Rattle.rule.specs.Lists.{some-of}
-use Rattle.rule.specs.Rule.{Rule, Account, Message, request, commit, abort}
+use Rattle.rule.specs.Rule.{Rule, Account, request, commit, abort}
 use Rattle.rule.specs.Step.{named}
 use Rattle.rule.specs.Call.{namedCommitted, refusal}
 

@@ -5,7 +5,7 @@ use mathlib.Core.Bool.{Bool, cond, not}
 use mathlib.Core.List.{List, [], _∷_, _++_, map}
 use lib.Dec.{eqb}
 use Rattle.rule.specs.Lists.{keep}
-use Rattle.rule.specs.Rule.{Rule, Decision, undecided, committed, Slot, slot, Account, Message, request, commit, abort, accept, reject, hold, Verdict, Entry, voted, noted, applied, dropped}
+use Rattle.rule.specs.Rule.{Rule, undecided, committed, Slot, slot, Account, Message, request, commit, abort, accept, reject, hold, Verdict, Entry, voted, noted, applied, dropped}
 use Rattle.rule.specs.Weigh.{Weighing, decide, decideBehind}
 
 -- the account that follows, and the entries written on the way

@@ -4,7 +4,7 @@ use Prim.Native.Nat.{ℕ, _+_, _≤_, _<_}
 use mathlib.Core.Path.{_≡_}
 use mathlib.Core.List.{List, [], _∷_, _++_}
 use lib.ListN.{length}
-use Rattle.rule.specs.Rule.{Rule, Account, Message, request, commit, abort, Verdict, accept, reject, hold, Entry, voted, noted, applied, dropped}
+use Rattle.rule.specs.Rule.{Account, Message, request, commit, abort, Verdict, accept, reject, hold, Entry, voted, noted, applied, dropped}
 
 module _ {G E B : Type 0} where
   -- nothing but entries of events applied

@@ -1,6 +1,6 @@
 -- The loop counts up to `most`.
 -- Assumes nothing.
-use Prim.Native.Nat.{_≤_, _-_}
+use Prim.Native.Nat.{_-_}
 use borrow.Author.Needs.{needs}
 use Rattle.account_cases.proofs.outlooks.Statement.{statement}
 use Rattle.account_cases.proofs.outlooks.Tie as tie

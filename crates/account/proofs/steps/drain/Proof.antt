@@ -10,7 +10,7 @@ use borrow.Author.Needs.{needs}
 use Rattle.rule.specs.Rule.{voted}
 use Rattle.rule.specs.Order.{guarded}
 use Rattle.account.specs.Panel.{panel}
-use Rattle.account.specs.Places.{RuleSlot, slotOf, blank}
+use Rattle.account.specs.Places.{RuleSlot, blank}
 use Rattle.account.specs.Weighing.{verdictOf}
 use Rattle.account.specs.Steps.{RuleEntry, entriesOf}
 use Rattle.account.specs.Rows.{listOf, rowOf}

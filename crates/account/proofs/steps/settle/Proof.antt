@@ -11,7 +11,7 @@ use borrow.Author.Tests.{not-true, not-false}
 use Rattle.rule.specs.Rule.{applied}
 use Rattle.rule.specs.Step.{after}
 use Rattle.rule.specs.Order.{guarded, oldestUndecided}
-use Rattle.account.specs.Panel.{effectOf, panel}
+use Rattle.account.specs.Panel.{panel}
 use Rattle.account.specs.Places.{slotOf, blank}
 use Rattle.account.specs.Steps.{RuleEntry, entriesOf}
 use Rattle.account.specs.Rows.{listOf}

@@ -1,7 +1,7 @@
 -- `account::weighing::walk` meets its contract. The invariant: the ends span the outcomes of the events so far, and from here on each event finds its guard exactly
 -- if each of all does.
 -- Assumes nothing.
-use Prim.Native.Nat.{_+_, _-_, _^_, _≤_, _<_}
+use Prim.Native.Nat.{_+_, _-_, _≤_}
 use mathlib.Core.Path.{_≡_, refl, sym, _∙_, ap}
 use mathlib.Core.Bool.{true, false, false≢true}
 use mathlib.Core.List.{[]}
@@ -9,10 +9,10 @@ use native.Mathlib.Omega.{arith}
 use lib.ListN.{length, getD}
 use borrow.Author.Needs.{needs}
 use Rattle.rule.specs.Lists.{every}
-use Rattle.rule.specs.Outcome.{undecidedOf, outcomes}
+use Rattle.rule.specs.Outcome.{outcomes}
 use Rattle.rule.specs.Order.{guarded}
 use Rattle.account.specs.Panel.{guardOf, panel}
-use Rattle.account.specs.Places.{used, slotOf, blank}
+use Rattle.account.specs.Places.{used, blank}
 use Rattle.account.specs.declared.State.{State}
 use Rattle.account.specs.Ends.{everyEnd, endsWith}
 use Rattle.account.proofs.Slices.{usedFrom, used-end, used-more, count-used}
