@@ -14,12 +14,16 @@ use Rattle.account.specs.declared.State.{State}
 abbrev pub limit : ℕ
 limit = 1_000_000
 
--- "The account has up to 8 events in progress and up to 8 requests held"
+-- the places of a row, of events in progress and of requests held
+abbrev pub rowPlaces : ℕ
+rowPlaces = 8
+
+-- how many events may be in progress and how many requests held: as many as there are places
 abbrev pub room : ℕ
-room = 8
+room = rowPlaces
 
 abbrev pub bench : ℕ
-bench = 8
+bench = rowPlaces
 
 abbrev pub isNew : Life → Bool
 isNew New = true

@@ -1,7 +1,7 @@
 -- What request, commit and abort give, and what the outcome question answers, for every account whatever its places hold
 -- (document 01, "Weighing a request" and "Numbers given when a call is not taken").
 -- Assumes nothing.
-use Prim.Native.Nat.{ℕ, _-_, _^_}
+use Prim.Native.Nat.{ℕ, _+_, _-_, _^_}
 use mathlib.Core.Bool.{cond}
 use mathlib.Core.List.{List, [], _++_, map}
 use mathlib.Core.Option.{Option, none, some}
@@ -22,7 +22,7 @@ use Rattle.account.specs.declared.Answer.the-variants as Answer′
 use Rattle.account.specs.declared.Called.{Called}
 use Rattle.account.specs.declared.Outlook.{Outlook}
 use Rattle.account.specs.declared.Outlook.the-variants as Outlook′
-use Rattle.account.specs.Panel.{panel}
+use Rattle.account.specs.Panel.{panel, room, bench}
 use Rattle.account.specs.Places.{listsOf, accountOf}
 use Rattle.account.specs.Order.{orderOf}
 
@@ -47,9 +47,9 @@ entryOf (rule.noted t g) = record { transaction = t; second = g; told = Noted }
 entryOf (rule.applied t g e b) = record { transaction = t; second = g; told = Applied e b }
 entryOf (rule.dropped t g e) = record { transaction = t; second = g; told = Dropped e }
 
--- "at most 17" entries in one call; a place that no entry takes is this one
+-- the entries of one call are its own, one for each event in progress and one for each request held, at most; a place that no entry takes is the blank one
 abbrev pub most : ℕ
-most = 17
+most = 1 + room + bench
 
 abbrev pub blankEntry : Entry
 blankEntry = record { transaction = 0; second = 0; told = Noted }

@@ -19,6 +19,7 @@ use Rattle.account.specs.declared.Called.{Called}
 use Rattle.account.specs.declared.places.Row.{Row}
 use Rattle.account.specs.declared.steps.Sought.{Sought}
 use Rattle.account.specs.declared.weighing.Verdict.{Verdict}
+use Rattle.account.specs.Panel.{rowPlaces}
 use Rattle.account.specs.Places.{RuleSlot, slotOf, listsOf, accountOf}
 use Rattle.account.specs.Weighing.{verdictOf}
 use Rattle.account.specs.Rows.{row, rowOf}
@@ -53,15 +54,15 @@ undecidedSlot x = rule.slot (x .transaction) (x .second) (x .event) rule.undecid
 
 -- the row of the events in progress after a vote: of a row that is its list's, the row of the list after it
 pub record Joined (progress : Row) (place : Slot) (verdict : Verdict) (r : Row) : Type 0 where
-  pub within : r .count ≤ 8
+  pub within : r .count ≤ rowPlaces
   pub list : (ps : List RuleSlot) → progress ≡ rowOf ps → r ≡ rowOf (joinedBy (verdictOf verdict) ps (undecidedSlot place))
 
 -- what an account in order has of a transaction: its rows are its lists', and what refusals 6 to 11 and an abort ask
 pub record Seeks (a : Account) (t : ℕ) (r : Sought) : Type 0 where
   pub progress : row (a .progress) (a .progressing) ≡ rowOf (listsOf a .progress)
   pub held : row (a .held) (a .holding) ≡ rowOf (listsOf a .held)
-  pub progressing : a .progressing ≤ 8
-  pub holding : a .holding ≤ 8
+  pub progressing : a .progressing ≤ rowPlaces
+  pub holding : a .holding ≤ rowPlaces
   pub named : r .named ≡ (some-of (rule-step.named t) (listsOf a .progress) || some-of (rule-step.named t) (listsOf a .held))
   pub waits : r .waits ≡ some-of (rule-step.named t) (listsOf a .held)
   pub committed : r .committed ≡ some-of (namedCommitted t) (listsOf a .progress)

@@ -43,9 +43,9 @@ pub struct Slot {
 // An account: the first `progressing` places of `progress` and the first `holding` of `held` are used, in arrival order; the others are blank.
 pub struct Account {
     pub state: State,
-    pub progress: [Slot; 8],
+    pub progress: [Slot; Account::PLACES],
     pub progressing: usize,
-    pub held: [Slot; 8],
+    pub held: [Slot; Account::PLACES],
     pub holding: usize,
 }
 
@@ -68,7 +68,7 @@ pub struct Entry {
 
 // The entries of one call, in the order in which they were written: the first `count` places; the others are blank.
 pub struct Entries {
-    pub at: [Entry; 17],
+    pub at: [Entry; Entries::MOST],
     pub count: usize,
 }
 
@@ -99,11 +99,19 @@ const BLANK: Slot = Slot {
     decision: Decision::Undecided,
 };
 
-impl Account {
-    // The limits: events in progress, requests held, the highest balance.
-    pub const PROGRESS: usize = 8;
+impl Entries {
+    // The entries that one call writes at most: its own, one for each event in progress, one for each request held.
+    pub const MOST: usize = 1 + Account::PROGRESS + Account::HELD;
+}
 
-    pub const HELD: usize = 8;
+impl Account {
+    // The places of each row, of events in progress and of requests held.
+    pub const PLACES: usize = 8;
+
+    // The limits: events in progress, requests held, the highest balance.
+    pub const PROGRESS: usize = Account::PLACES;
+
+    pub const HELD: usize = Account::PLACES;
 
     pub const LIMIT: u32 = 1_000_000;
 
@@ -113,9 +121,9 @@ impl Account {
             life: Life::New,
             balance: 0,
         },
-        progress: [BLANK; 8],
+        progress: [BLANK; Account::PLACES],
         progressing: 0,
-        held: [BLANK; 8],
+        held: [BLANK; Account::PLACES],
         holding: 0,
     };
 }

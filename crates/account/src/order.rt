@@ -15,7 +15,7 @@ ghost use lib.ListN.{drop};
 ghost use mathlib.Core.List.{[]};
 ghost use Rattle.rule.specs.Lists.{every};
 ghost use Rattle.rule.specs.Order as rule;
-ghost use Rattle.account.specs.Panel.{panel, stateFits};
+ghost use Rattle.account.specs.Panel.{panel, rowPlaces, stateFits};
 ghost use Rattle.account.specs.Places.{used};
 ghost use Rattle.account.specs.Order.{isBlank, isOpenZero, orderOf};
 ghost use Rattle.account.specs.Clauses.{isAccept, isHold, apartBeside, listed};
@@ -45,12 +45,12 @@ impl Account {
 // Whether the used places keep the rule's clauses; with nothing in progress and nothing held only the state has to.
 fn lists_in_order(
     s: State,
-    progress: [Slot; 8],
+    progress: [Slot; Account::PLACES],
     progressing: usize,
-    held: [Slot; 8],
+    held: [Slot; Account::PLACES],
     holding: usize,
 ) -> bool
-    requires { ⌜ (progressing ≤ 8) × (holding ≤ 8) ⌝ }
+    requires { ⌜ (progressing ≤ rowPlaces) × (holding ≤ rowPlaces) ⌝ }
     ensures { λ r. ⌜ r ≡ rule.order panel (listed s (used progress progressing) (used held holding)) ⌝ }
 {
     if progressing + holding == 0 {
@@ -73,7 +73,7 @@ fn fits(s: State) -> bool
 }
 
 // Whether every place from this one on is blank.
-fn blank_from(places: [Slot; 8], from: usize) -> bool
+fn blank_from(places: [Slot; Account::PLACES], from: usize) -> bool
     ensures { λ r. ⌜ r ≡ every isBlank (drop from places) ⌝ }
 {
     let mut at = from;
@@ -110,8 +110,8 @@ fn is_open_zero(e: Event) -> bool
 }
 
 // Whether each of these transactions differs from those behind it and from all of the others.
-fn apart(places: [Slot; 8], count: usize, others: [Slot; 8], more: usize) -> bool
-    requires { ⌜ (count ≤ 8) × (more ≤ 8) ⌝ }
+fn apart(places: [Slot; Account::PLACES], count: usize, others: [Slot; Account::PLACES], more: usize) -> bool
+    requires { ⌜ (count ≤ rowPlaces) × (more ≤ rowPlaces) ⌝ }
     ensures { λ r. ⌜ r ≡ apartBeside (used places count) (used others more) ⌝ }
 {
     let mut at = 0;
@@ -140,8 +140,8 @@ fn apart(places: [Slot; 8], count: usize, others: [Slot; 8], more: usize) -> boo
 }
 
 // Whether no used place is decided.
-fn without_decision(places: [Slot; 8], count: usize) -> bool
-    requires { ⌜ count ≤ 8 ⌝ }
+fn without_decision(places: [Slot; Account::PLACES], count: usize) -> bool
+    requires { ⌜ count ≤ rowPlaces ⌝ }
     ensures { λ r. ⌜ r ≡ every rule.withoutDecision (used places count) ⌝ }
 {
     let mut at = 0;
@@ -158,8 +158,8 @@ fn without_decision(places: [Slot; 8], count: usize) -> bool
 }
 
 // Whether each event in progress finds its guard true in every outcome of those before it.
-fn guarded(s: State, progress: [Slot; 8], progressing: usize) -> bool
-    requires { ⌜ progressing ≤ 8 ⌝ }
+fn guarded(s: State, progress: [Slot; Account::PLACES], progressing: usize) -> bool
+    requires { ⌜ progressing ≤ rowPlaces ⌝ }
     ensures { λ r. ⌜ r ≡ rule.guarded panel s [] (used progress progressing) ⌝ }
 {
     let walked = walk(s, progress, progressing);
@@ -167,8 +167,8 @@ fn guarded(s: State, progress: [Slot; 8], progressing: usize) -> bool
 }
 
 // Whether the oldest event in progress, if any, is undecided.
-fn oldest_undecided(progress: [Slot; 8], progressing: usize) -> bool
-    requires { ⌜ progressing ≤ 8 ⌝ }
+fn oldest_undecided(progress: [Slot; Account::PLACES], progressing: usize) -> bool
+    requires { ⌜ progressing ≤ rowPlaces ⌝ }
     ensures { λ r. ⌜ r ≡ rule.oldestUndecided (used progress progressing) ⌝ }
 {
     if progressing == 0 {
@@ -182,12 +182,12 @@ fn oldest_undecided(progress: [Slot; 8], progressing: usize) -> bool
 // Whether the oldest request held, if any, would stay held; it is asked where the events in progress find their guards.
 fn oldest_stays_held(
     s: State,
-    progress: [Slot; 8],
+    progress: [Slot; Account::PLACES],
     progressing: usize,
-    held: [Slot; 8],
+    held: [Slot; Account::PLACES],
     holding: usize,
 ) -> bool
-    requires { ⌜ (progressing ≤ 8) × (holding ≤ 8) ⌝ }
+    requires { ⌜ (progressing ≤ rowPlaces) × (holding ≤ rowPlaces) ⌝ }
     ensures { λ r. ⌜ (rule.guarded panel s [] (used progress progressing) ≡ true → r ≡ rule.oldestStaysHeld panel s (used progress progressing) (used held holding)) ⌝ }
 {
     if holding == 0 {

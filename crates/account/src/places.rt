@@ -1,4 +1,5 @@
 // The places of an account, as rows: a transaction is looked for, marked, taken out; a place is added; the oldest are left out.
+use crate::Account;
 use crate::BLANK;
 use crate::Decision;
 use crate::Slot;
@@ -7,12 +8,13 @@ ghost use mathlib.Core.Path.{_≡_};
 ghost use Prim.Native.Nat.{_<_, _≤_};
 ghost use Rattle.rule.specs.Step.{mark, markOne, without};
 ghost use Rattle.rule.specs.Order.{oldestUndecided};
+ghost use Rattle.account.specs.Panel.{rowPlaces};
 ghost use Rattle.account.specs.Places.{slotOf};
 ghost use Rattle.account.specs.Rows.{listOf, listFrom, foundIn, isFound, isCommittedAt, firstOf, placeAt, Longer, Made};
 
 // Places in progress, or held: the first `count` are used, in arrival order.
 pub(crate) struct Row {
-    pub(crate) slots: [Slot; 8],
+    pub(crate) slots: [Slot; Account::PLACES],
     pub(crate) count: usize,
 }
 
@@ -25,13 +27,13 @@ pub(crate) enum Found {
 impl Row {
     // A row with nothing in it.
     const EMPTY: Row = Row {
-        slots: [BLANK; 8],
+        slots: [BLANK; Account::PLACES],
         count: 0,
     };
 
     // The row with one place more used, the youngest.
     pub(crate) fn with(self, slot: Slot) -> Row
-        requires { ⌜ self .count < 8 ⌝ }
+        requires { ⌜ self .count < rowPlaces ⌝ }
         ensures { λ r. ⌜ Longer self slot r ⌝ }
     {
         let mut slots = self.slots;
@@ -45,7 +47,7 @@ impl Row {
 
     // The first used place of that transaction.
     pub(crate) fn find(self, transaction: u32) -> Found
-        requires { ⌜ self .count ≤ 8 ⌝ }
+        requires { ⌜ self .count ≤ rowPlaces ⌝ }
         ensures { λ r. ⌜ r ≡ foundIn transaction (listOf self) ⌝ }
     {
         let slots = self.slots;
@@ -63,7 +65,7 @@ impl Row {
 
     // Whether the place is past the last used one, or undecided.
     pub(crate) fn settled(self, at: usize) -> bool
-        requires { ⌜ self .count ≤ 8 ⌝ }
+        requires { ⌜ self .count ≤ rowPlaces ⌝ }
         ensures { λ r. ⌜ r ≡ oldestUndecided (listFrom at self) ⌝ }
     {
         let slots = self.slots;
@@ -77,12 +79,12 @@ impl Row {
 
     // The row in which that transaction is committed.
     pub(crate) fn marked(self, transaction: u32) -> Row
-        requires { ⌜ self .count ≤ 8 ⌝ }
+        requires { ⌜ self .count ≤ rowPlaces ⌝ }
         ensures { λ r. ⌜ Made self (mark transaction (listOf self)) r ⌝ }
     {
         let slots = self.slots;
         let count = self.count;
-        let mut marked = [BLANK; 8];
+        let mut marked = [BLANK; Account::PLACES];
         let mut i = 0;
         while i < count {
             marked[i] = committed_if(slots[i], transaction);
@@ -96,7 +98,7 @@ impl Row {
 
     // The row without that transaction.
     pub(crate) fn without(self, transaction: u32) -> Row
-        requires { ⌜ self .count ≤ 8 ⌝ }
+        requires { ⌜ self .count ≤ rowPlaces ⌝ }
         ensures { λ r. ⌜ Made self (without transaction (listOf self)) r ⌝ }
     {
         let slots = self.slots;
@@ -115,12 +117,12 @@ impl Row {
 
     // The row without its oldest places, so many of them.
     pub(crate) fn after(self, oldest: usize) -> Row
-        requires { ⌜ (oldest ≤ self .count) × (self .count ≤ 8) ⌝ }
+        requires { ⌜ (oldest ≤ self .count) × (self .count ≤ rowPlaces) ⌝ }
         ensures { λ r. ⌜ Made self (listFrom oldest self) r ⌝ }
     {
         let slots = self.slots;
         let count = self.count;
-        let mut younger = [BLANK; 8];
+        let mut younger = [BLANK; Account::PLACES];
         let mut i = oldest;
         while i < count {
             let slot = slots[i];

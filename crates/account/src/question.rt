@@ -8,6 +8,7 @@ use crate::weighing::is_undecided;
 ghost use mathlib.Core.Path.{_≡_};
 ghost use Prim.Native.Nat.{_≤_};
 ghost use Rattle.account.specs.Places.{used};
+ghost use Rattle.account.specs.Panel.{rowPlaces};
 ghost use Rattle.account.specs.Steps.{outlookOf};
 ghost use Rattle.account.specs.Reached.{followed, reachedOf};
 
@@ -39,8 +40,8 @@ impl Account {
 }
 
 // The state in the outcome of this number, and what is left of the number: 0 exactly if the outcome is there.
-fn outcome(s: State, progress: [Slot; 8], progressing: usize, number: u32) -> Reached
-    requires { ⌜ progressing ≤ 8 ⌝ }
+fn outcome(s: State, progress: [Slot; Account::PLACES], progressing: usize, number: u32) -> Reached
+    requires { ⌜ progressing ≤ rowPlaces ⌝ }
     ensures { λ r. ⌜ r ≡ reachedOf (used progress progressing) number s ⌝ }
 {
     let mut reached = Reached {

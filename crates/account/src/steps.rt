@@ -23,12 +23,12 @@ ghost use lib.ListN.{length};
 ghost use Rattle.rule.specs.Rule.{request, commit, abort};
 ghost use Rattle.rule.specs.Order.{guarded};
 ghost use Rattle.rule.specs.Step as rule;
-ghost use Rattle.account.specs.Panel.{panel};
+ghost use Rattle.account.specs.Panel.{panel, rowPlaces};
 ghost use Rattle.account.specs.Places.{RuleSlot, slotOf};
 ghost use Rattle.account.specs.Order.{orderOf};
 ghost use Rattle.account.specs.Ends.{Decides};
 ghost use Rattle.account.specs.Clauses.{isAccept, listed};
-ghost use Rattle.account.specs.Steps.{RuleEntry, entriesOf, stepOf, refusedBy};
+ghost use Rattle.account.specs.Steps.{RuleEntry, most, entriesOf, stepOf, refusedBy};
 ghost use Rattle.account.specs.Rows.{row, listOf, rowOf};
 ghost use Rattle.account.specs.Taken.{takenAs, undecidedSlot, Joined, Seeks};
 
@@ -200,7 +200,7 @@ fn ask(
     second: u32,
     event: Event,
 ) -> Called
-    requires { ⌜ (progress .count ≤ 8) × (held .count < 8) ⌝ }
+    requires { ⌜ (progress .count ≤ rowPlaces) × (held .count < rowPlaces) ⌝ }
     ensures { λ r. ⌜ ((events requests : List RuleSlot) → progress ≡ rowOf events → held ≡ rowOf requests → guarded panel state [] events ≡ true → r ≡ takenAs (rule.asked panel (listed state events requests) transaction second event)) ⌝ }
 {
     let decision = Decision::Undecided;
@@ -221,7 +221,7 @@ fn ask(
 
 // The decision on a request behind those held: held with 0 if there are any.
 fn decide_behind(holding: usize, progress: Row, state: State, event: Event) -> Weighing
-    requires { ⌜ progress .count ≤ 8 ⌝ }
+    requires { ⌜ progress .count ≤ rowPlaces ⌝ }
     ensures { λ r. ⌜ ((requests : List RuleSlot) → holding ≡ length requests → Decides requests event state (listOf progress) (progress .count) r) ⌝ }
 {
     let slots = progress.slots;
@@ -237,7 +237,7 @@ fn decide_behind(holding: usize, progress: Row, state: State, event: Event) -> W
 
 // What follows every commit and abort: the committed oldest are applied, then the requests held are looked at.
 fn settle(state: State, progress: Row, held: Row, entries: Entries) -> Called
-    requires { ⌜ (progress .count ≤ 8) × (held .count ≤ 8) × (entries .count + progress .count + held .count ≤ 17) ⌝ }
+    requires { ⌜ (progress .count ≤ rowPlaces) × (held .count ≤ rowPlaces) × (entries .count + progress .count + held .count ≤ most) ⌝ }
     ensures { λ r. ⌜ ((written : List RuleEntry) → entries ≡ entriesOf written → guarded panel state [] (listOf progress) ≡ true → r ≡ takenAs (rule.after written (rule.settle panel state (listOf progress) (listOf held)))) ⌝ }
 {
     let slots = progress.slots;
@@ -256,7 +256,7 @@ fn settle(state: State, progress: Row, held: Row, entries: Entries) -> Called
 
 // The requests held are weighed, the oldest first, until one stays held.
 fn drain(state: State, progress: Row, held: Row, entries: Entries) -> Called
-    requires { ⌜ (progress .count ≤ 8) × (held .count ≤ 8) × (entries .count + held .count ≤ 17) ⌝ }
+    requires { ⌜ (progress .count ≤ rowPlaces) × (held .count ≤ rowPlaces) × (entries .count + held .count ≤ most) ⌝ }
     ensures { λ r. ⌜ ((events : List RuleSlot) (written : List RuleEntry) → progress ≡ rowOf events → entries ≡ entriesOf written → guarded panel state [] events ≡ true → r ≡ takenAs (rule.after written (rule.drain panel state events (listOf held)))) ⌝ }
 {
     let slots = held.slots;
@@ -281,7 +281,7 @@ fn drain(state: State, progress: Row, held: Row, entries: Entries) -> Called
 
 // The events in progress after a vote on a request: the request is one of them if it was accepted.
 fn joined(progress: Row, slot: Slot, verdict: Verdict) -> Row
-    requires { ⌜ (progress .count ≤ 8) × (isAccept verdict ≡ true → progress .count < 8) ⌝ }
+    requires { ⌜ (progress .count ≤ rowPlaces) × (isAccept verdict ≡ true → progress .count < rowPlaces) ⌝ }
     ensures { λ r. ⌜ Joined progress slot verdict r ⌝ }
 {
     if is_accept(verdict) {

@@ -9,7 +9,7 @@ ghost use mathlib.Core.Path.{_≡_};
 ghost use mathlib.Core.Bool.{true};
 ghost use mathlib.Core.List.{[]};
 ghost use Prim.Native.Nat.{_≤_};
-ghost use Rattle.account.specs.Panel.{isNew, isOpened, guardOf, tableEffect, effectOf};
+ghost use Rattle.account.specs.Panel.{rowPlaces, isNew, isOpened, guardOf, tableEffect, effectOf};
 ghost use Rattle.account.specs.Places.{used};
 ghost use Rattle.account.specs.Order.{isUndecided};
 ghost use Rattle.account.specs.Weighing.{verdictBy};
@@ -141,8 +141,8 @@ impl Ends {
 }
 
 // The decision on a request as if nothing were held: held with 0 where no place is free in progress, else weighed at the ends of the outcomes.
-pub(crate) fn decide(progress: [Slot; 8], progressing: usize, s: State, e: Event) -> Weighing
-    requires { ⌜ progressing ≤ 8 ⌝ }
+pub(crate) fn decide(progress: [Slot; Account::PLACES], progressing: usize, s: State, e: Event) -> Weighing
+    requires { ⌜ progressing ≤ rowPlaces ⌝ }
     ensures { λ r. ⌜ Decides [] e s (used progress progressing) progressing r ⌝ }
 {
     if Account::PROGRESS <= progressing {
@@ -174,8 +174,8 @@ fn verdict_of(every: bool, some: bool) -> Verdict
 }
 
 // The ends of the outcomes of the events in progress, an event at a time.
-pub(crate) fn walk(s: State, progress: [Slot; 8], progressing: usize) -> Spread
-    requires { ⌜ progressing ≤ 8 ⌝ }
+pub(crate) fn walk(s: State, progress: [Slot; Account::PLACES], progressing: usize) -> Spread
+    requires { ⌜ progressing ≤ rowPlaces ⌝ }
     ensures { λ r. ⌜ Spreads s (used progress progressing) r ⌝ }
 {
     let mut ends = Ends::of(s);

@@ -10,7 +10,7 @@ ghost use mathlib.Core.List.{[]};
 ghost use Prim.Native.Nat.{_<_};
 ghost use Rattle.rule.specs.Rule as rule;
 ghost use Rattle.account.specs.Weighing.{verdictOf};
-ghost use Rattle.account.specs.Steps.{entryOf, entriesOf};
+ghost use Rattle.account.specs.Steps.{most, entryOf, entriesOf};
 ghost use Rattle.account.specs.Taken.{Alone, Further};
 
 // A place that no entry takes.
@@ -26,7 +26,7 @@ impl Entries {
         ensures { λ r. ⌜ r ≡ entriesOf [] ⌝ }
     {
         Entries {
-            at: [BLANK; 17],
+            at: [BLANK; Entries::MOST],
             count: 0,
         }
     }
@@ -40,7 +40,7 @@ impl Entries {
 
     // The entries with one more, the last.
     pub(crate) fn with(self, entry: Entry) -> Entries
-        requires { ⌜ self .count < 17 ⌝ }
+        requires { ⌜ self .count < most ⌝ }
         ensures { λ r. ⌜ Further self entry r ⌝ }
     {
         let mut at = self.at;
