@@ -110,7 +110,12 @@ fn is_open_zero(e: Event) -> bool
 }
 
 // Whether each of these transactions differs from those behind it and from all of the others.
-fn apart(places: [Slot; Account::PLACES], count: usize, others: [Slot; Account::PLACES], more: usize) -> bool
+fn apart(
+    places: [Slot; Account::PLACES],
+    count: usize,
+    others: [Slot; Account::PLACES],
+    more: usize,
+) -> bool
     requires { ⌜ (count ≤ rowPlaces) × (more ≤ rowPlaces) ⌝ }
     ensures { λ r. ⌜ r ≡ apartBeside (used places count) (used others more) ⌝ }
 {

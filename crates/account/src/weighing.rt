@@ -141,7 +141,12 @@ impl Ends {
 }
 
 // The decision on a request as if nothing were held: held with 0 where no place is free in progress, else weighed at the ends of the outcomes.
-pub(crate) fn decide(progress: [Slot; Account::PLACES], progressing: usize, s: State, e: Event) -> Weighing
+pub(crate) fn decide(
+    progress: [Slot; Account::PLACES],
+    progressing: usize,
+    s: State,
+    e: Event,
+) -> Weighing
     requires { ⌜ progressing ≤ rowPlaces ⌝ }
     ensures { λ r. ⌜ Decides [] e s (used progress progressing) progressing r ⌝ }
 {

@@ -4,6 +4,7 @@ ghost use mathlib.Core.List.{[], _∷_};
 ghost use Prim.Native.Nat.{_≤_, min};
 ghost use lib.ListN.{take};
 ghost use lib.Seq.{sets};
+ghost use Rattle.account.specs.Steps.{most};
 ghost use Rattle.layout.specs.Fields.{rowOf, thenOf, written};
 ghost use Rattle.layout.specs.Events.{eventKind, amountOf};
 ghost use Rattle.entry.specs.Bytes.{entryRows, kindOf, thenNumbers, bytesOfEntry, bytesOfEntries, wholesOf};
@@ -32,16 +33,20 @@ pub fn write_entries(entries: Entries, account: u16, buffer: &mut [u8]) -> Writi
     Writing::Written(whole)
 }
 
-// How many of the 17 places are used.
+// How many of the places are used.
 fn used(count: usize) -> usize
-    ensures { λ r. ⌜ r ≡ min count 17 ⌝ }
+    ensures { λ r. ⌜ r ≡ min count most ⌝ }
 {
-    if count < 17 { count } else { 17 }
+    if count < Entries::MOST {
+        count
+    } else {
+        Entries::MOST
+    }
 }
 
 // How many bytes the first entries take, as many as `count` says.
-fn whole_length(places: [Entry; 17], count: usize) -> usize
-    requires { ⌜ count ≤ 17 ⌝ }
+fn whole_length(places: [Entry; Entries::MOST], count: usize) -> usize
+    requires { ⌜ count ≤ most ⌝ }
     ensures { λ r. ⌜ r ≡ wholesOf (take count places) ⌝ }
 {
     let mut whole: usize = 0;
@@ -56,8 +61,8 @@ fn whole_length(places: [Entry; 17], count: usize) -> usize
 }
 
 // Stores the first entries, as many as `count` says, from the beginning of the buffer.
-fn put_entries(places: [Entry; 17], count: usize, account: u16, buffer: &mut [u8])
-    requires { ⌜ count ≤ 17 ⌝ }
+fn put_entries(places: [Entry; Entries::MOST], count: usize, account: u16, buffer: &mut [u8])
+    requires { ⌜ count ≤ most ⌝ }
     ensures { λ _. ⌜ now (buffer .exit) ≡ sets (now (buffer .entry)) 0 (bytesOfEntries account (take count places)) ⌝ }
 {
     let mut at: usize = 0;

@@ -25,7 +25,7 @@ struct Served {
 }
 
 fn main() {
-    let mut input = [0u8; 65537];
+    let mut input = [0u8; MOST + 1];
     let count = io::read_full(0, &mut input);
     let mut out = [0u8; 4096];
     let at = say(&mut out, 0, b"register 1\n");
@@ -62,7 +62,7 @@ fn serve_one(served: Served, messages: &[u8], out: &mut [u8]) -> Served
     ensures { λ r. ⌜ (served .from < r .from) × (r .from ≤ length (now (messages .entry))) ⌝ }
 {
     let from = served.from;
-    let mut buffer = [0u8; 315];
+    let mut buffer = [0u8; entry::LONGEST_CALL];
     let called = served.register.call(&messages[from..], &mut buffer);
     let register = called.register;
     let answer = called.answer;
@@ -128,7 +128,11 @@ fn past(from: usize, step: usize, end: usize) -> usize
 
 // One more, of a count that stays far from its type's end.
 fn more(count: u64) -> u64 {
-    if count < 65536 { count + 1 } else { count }
+    if count < MOST as u64 {
+        count + 1
+    } else {
+        count
+    }
 }
 
 // The number of a refusal; 0 where the message was taken.

@@ -29,16 +29,20 @@ pub(crate) fn call(register: Register, payload: &[u8], page: &mut Page, at: usiz
 
 // Puts what the call answered, and what it left in the buffer.
 fn said(answer: Answer, buffer: &Buffer, page: &mut Page, at: usize) -> usize {
+    let Answer::Taken(consumed, written) = answer else {
+        let end = text::refused(page, at, number_of(answer));
+        return text::kept(page, end, buffer, 0);
+    };
+    let end = text::word(page, at, b"taken");
+    let end = text::count(page, end, consumed);
+    text::written(page, end, buffer, written)
+}
+
+// The number of a call's refusal; 0 where it was taken.
+fn number_of(answer: Answer) -> u8 {
     match answer {
-        Answer::Refused(number) => {
-            let end = text::refused(page, at, number);
-            text::kept(page, end, buffer, 0)
-        }
-        Answer::Taken(consumed, written) => {
-            let end = text::word(page, at, b"taken");
-            let end = text::count(page, end, consumed);
-            text::written(page, end, buffer, written)
-        }
+        Answer::Refused(number) => number,
+        Answer::Taken(_, _) => 0,
     }
 }
 
@@ -48,12 +52,18 @@ pub(crate) fn outcome(register: Register, payload: &[u8], page: &mut Page, at: u
         return text::unknown(page, at);
     }
     let outlook = register.outlook(layout::number2(payload, 0), layout::number4(payload, 2));
+    let Outlook::State(state, applied) = outlook else {
+        return text::refused(page, at, refusal_of(outlook));
+    };
+    let end = text::word(page, at, b"outcome");
+    let end = text::state(page, end, state);
+    text::field(page, end, applied)
+}
+
+// The number of the question's refusal; 0 where it was answered.
+fn refusal_of(outlook: Outlook) -> u8 {
     match outlook {
-        Outlook::Refused(number) => text::refused(page, at, number),
-        Outlook::State(state, applied) => {
-            let end = text::word(page, at, b"outcome");
-            let end = text::state(page, end, state);
-            text::field(page, end, applied)
-        }
+        Outlook::Refused(number) => number,
+        Outlook::State(_, _) => 0,
     }
 }

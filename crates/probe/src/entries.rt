@@ -1,4 +1,5 @@
 // The entry reader, and an entry's line of text: frames 7 and 67.
+use crate::messages;
 use crate::text;
 use crate::text::Page;
 use account::Entry;
@@ -10,32 +11,30 @@ use layout::Writing;
 // Frame 7: the entry reader.
 pub(crate) fn read(payload: &[u8], page: &mut Page, at: usize) -> usize {
     let reading = entry::read_entry(payload);
-    match reading {
-        EntryReading::Nothing => text::word(page, at, b"none"),
-        EntryReading::Found(found, account, length) => {
-            let end = put_found(found, account, page, at);
-            text::count(page, end, length)
-        }
-    }
+    let EntryReading::Found(found, account, length) = reading else {
+        return text::word(page, at, b"none");
+    };
+    let end = put_found(found, account, page, at);
+    text::count(page, end, length)
 }
 
 // Frame 67: the line of text of an entry.
 pub(crate) fn line(payload: &[u8], page: &mut Page, at: usize) -> usize {
     let reading = entry::read_entry(payload);
-    match reading {
-        EntryReading::Nothing => text::word(page, at, b"none"),
-        EntryReading::Found(found, account, _) => put_line(found, account, page, at),
-    }
+    let EntryReading::Found(found, account, _) = reading else {
+        return text::word(page, at, b"none");
+    };
+    put_line(found, account, page, at)
 }
 
 // Puts the line of text of an entry, without its newline.
 fn put_line(found: Entry, account: u16, page: &mut Page, at: usize) -> usize {
     let mut buffer = text::FILLED;
     let writing = entry::write_line(found, account, &mut buffer);
-    match writing {
-        Writing::Refused(number) => text::refused(page, at, number),
-        Writing::Written(length) => text::line(page, at, &buffer, length),
-    }
+    let Writing::Written(length) = writing else {
+        return text::refused(page, at, messages::number_of(writing));
+    };
+    text::line(page, at, &buffer, length)
 }
 
 // Puts an entry, with its account.

@@ -40,7 +40,7 @@ struct Next {
 
 // Reads one byte more than the longest input, to see whether there is one.
 fn main() {
-    let mut input = [0u8; 65_537];
+    let mut input = [0u8; LONGEST + 1];
     let read = io::read_full(0, &mut input);
     drive(&input[..read]);
 }

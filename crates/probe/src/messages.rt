@@ -9,13 +9,19 @@ use message::Reading;
 // Frame 3: the message reader.
 pub(crate) fn read(payload: &[u8], page: &mut Page, at: usize) -> usize {
     let reading = message::read_message(payload);
+    let Reading::Message(message, length) = reading else {
+        return text::refused(page, at, refusal_of(reading));
+    };
+    let end = text::word(page, at, b"message");
+    let end = put_message(message, page, end);
+    text::count(page, end, length)
+}
+
+// The number of the reader's refusal; 0 where it gave a message.
+fn refusal_of(reading: Reading) -> u8 {
     match reading {
-        Reading::Refused(number) => text::refused(page, at, number),
-        Reading::Message(message, length) => {
-            let end = text::word(page, at, b"message");
-            let end = put_message(message, page, end);
-            text::count(page, end, length)
-        }
+        Reading::Refused(number) => number,
+        Reading::Message(_, _) => 0,
     }
 }
 
@@ -66,15 +72,19 @@ pub(crate) fn write(payload: &[u8], page: &mut Page, at: usize) -> usize {
     let message = message_of(kind, heading, layout::number4(payload, 11));
     let mut buffer = text::FILLED;
     let writing = message::write_message(message, &mut buffer[0..room]);
+    let Writing::Written(length) = writing else {
+        let end = text::refused(page, at, number_of(writing));
+        return text::kept(page, end, &buffer, 0);
+    };
+    let end = text::word(page, at, b"written");
+    text::written(page, end, &buffer, length)
+}
+
+// The number of a writer's refusal; 0 where it wrote.
+pub(crate) fn number_of(writing: Writing) -> u8 {
     match writing {
-        Writing::Refused(number) => {
-            let end = text::refused(page, at, number);
-            text::kept(page, end, &buffer, 0)
-        }
-        Writing::Written(length) => {
-            let end = text::word(page, at, b"written");
-            text::written(page, end, &buffer, length)
-        }
+        Writing::Refused(number) => number,
+        Writing::Written(_) => 0,
     }
 }
 

@@ -1,5 +1,7 @@
 // The accounts of a register, and the sixteen places of an account: 0 to 7 in progress, 8 to 15 held.
-ghost use Prim.Native.Nat.{_≤_, _<_};
+ghost use Prim.Native.Nat.{_+_, _≤_, _<_};
+ghost use Rattle.account.specs.Panel.{rowPlaces};
+ghost use Rattle.layout.specs.Fields.{lastAccount};
 use account::Account;
 use account::Decision;
 use account::Event;
@@ -7,11 +9,11 @@ use account::Slot;
 use register::Register;
 
 // The places of an account.
-pub(crate) const COUNT: usize = 16;
+pub(crate) const COUNT: usize = Account::PLACES + Account::PLACES;
 
 // The account of that number.
 pub(crate) fn account_of(register: Register, number: u16) -> Account
-    requires { ⌜ number ≤ 15 ⌝ }
+    requires { ⌜ number ≤ lastAccount ⌝ }
 {
     let accounts = register.accounts;
     accounts[number as usize]
@@ -19,7 +21,7 @@ pub(crate) fn account_of(register: Register, number: u16) -> Account
 
 // The register with another account of that number.
 pub(crate) fn with_account(register: Register, number: u16, account: Account) -> Register
-    requires { ⌜ number ≤ 15 ⌝ }
+    requires { ⌜ number ≤ lastAccount ⌝ }
 {
     let mut accounts = register.accounts;
     accounts[number as usize] = account;
@@ -28,28 +30,28 @@ pub(crate) fn with_account(register: Register, number: u16, account: Account) ->
 
 // What stands in a place.
 pub(crate) fn slot_of(account: Account, place: usize) -> Slot
-    requires { ⌜ place < 16 ⌝ }
+    requires { ⌜ place < rowPlaces + rowPlaces ⌝ }
 {
-    if place < Account::PROGRESS {
+    if place < Account::PLACES {
         let progress = account.progress;
         progress[place]
     } else {
         let held = account.held;
-        held[place - Account::PROGRESS]
+        held[place - Account::PLACES]
     }
 }
 
 // The account with something else in a place.
 pub(crate) fn with_slot(account: Account, place: usize, slot: Slot) -> Account
-    requires { ⌜ place < 16 ⌝ }
+    requires { ⌜ place < rowPlaces + rowPlaces ⌝ }
 {
     let state = account.state;
     let mut progress = account.progress;
     let mut held = account.held;
-    if place < Account::PROGRESS {
+    if place < Account::PLACES {
         progress[place] = slot;
     } else {
-        held[place - Account::PROGRESS] = slot;
+        held[place - Account::PLACES] = slot;
     }
     Account {
         state,

@@ -12,9 +12,6 @@ use account::Entries;
 use account::Entry;
 use register::Register;
 
-// The places for entries.
-const ENTRIES: usize = 17;
-
 // Frame 68: one step of an account; the register goes on with the account that the step handed back.
 pub(crate) fn step(register: Register, payload: &[u8], page: &mut Page, at: usize) -> Answered {
     let number = layout::number2(payload, 0);
@@ -52,9 +49,17 @@ fn stepped(account: Account, kind: u8, payload: &[u8]) -> Called {
 
 // Puts what a step answers.
 fn put_answer(answer: Answer, page: &mut Page, at: usize) -> usize {
+    let Answer::Taken = answer else {
+        return text::refused(page, at, number_of(answer));
+    };
+    text::word(page, at, b"taken")
+}
+
+// The number of a step's refusal; 0 where it was taken.
+fn number_of(answer: Answer) -> u8 {
     match answer {
-        Answer::Taken => text::word(page, at, b"taken"),
-        Answer::Refused(number) => text::refused(page, at, number),
+        Answer::Refused(number) => number,
+        Answer::Taken => 0,
     }
 }
 
@@ -62,7 +67,7 @@ fn put_answer(answer: Answer, page: &mut Page, at: usize) -> usize {
 fn put_entries(entries: Entries, page: &mut Page, at: usize) -> usize {
     let all = entries.at;
     let mut end = text::count(page, at, entries.count);
-    for place in 0..ENTRIES {
+    for place in 0..Entries::MOST {
         end = put_entry(all[place], place, page, end);
     }
     end

@@ -1,6 +1,6 @@
 -- The register: sixteen accounts side by side, and the outcome question (document 01, "An account" and "Numbers given when a call is not taken").
 -- Assumes nothing.
-use Prim.Native.Nat.{ℕ}
+use Prim.Native.Nat.{ℕ, suc}
 use mathlib.Core.Bool.{cond}
 use mathlib.Core.List.{[]}
 use lib.Dec.{ltb}
@@ -20,9 +20,13 @@ use Rattle.message.specs.declared.Message.{Message}
 use Rattle.message.specs.declared.Message.the-variants.{Request, Commit, Abort}
 use Rattle.register.specs.declared.Register.{Register}
 
+-- as many accounts as there are numbers up to the last
+abbrev pub accountsOfRegister : ℕ
+accountsOfRegister = suc lastAccount
+
 -- "A fresh register has 16 accounts, numbered 0 to 15, all new, nothing in progress or held."
 unfoldable pub freshRegister : Register
-freshRegister = record { accounts = replicate 16 (accountOf (rule.newAccount panel ℕ)) }
+freshRegister = record { accounts = replicate accountsOfRegister (accountOf (rule.newAccount panel ℕ)) }
 
 -- what stands past the sixteenth account: no call looks there
 abbrev pub nowhere : Account

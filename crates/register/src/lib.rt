@@ -10,11 +10,11 @@ pub use runs::Ran;
 pub use runs::run;
 ghost use mathlib.Core.Path.{_≡_};
 ghost use Prim.Native.Nat.{_<_};
-ghost use Rattle.register.specs.Register.{freshRegister, withAccount, outlookIn};
+ghost use Rattle.register.specs.Register.{accountsOfRegister, freshRegister, withAccount, outlookIn};
 ghost use Rattle.register.specs.Call.{callOf};
 
 pub struct Register {
-    pub accounts: [Account; 16],
+    pub accounts: [Account; Register::ACCOUNTS],
 }
 
 // What a call answers: the number of its refusal, or the consumed length and the length written.
@@ -30,12 +30,15 @@ pub struct Called {
 }
 
 impl Register {
+    // The accounts side by side, numbered from 0.
+    pub const ACCOUNTS: usize = layout::LAST_ACCOUNT as usize + 1;
+
     // A fresh register: every account new, nothing in progress or held.
     pub fn fresh() -> Register
         ensures { λ r. ⌜ r ≡ freshRegister ⌝ }
     {
         Register {
-            accounts: [Account::FRESH; 16],
+            accounts: [Account::FRESH; Register::ACCOUNTS],
         }
     }
 
@@ -69,7 +72,7 @@ impl Register {
 
     // The register with another account at that number.
     fn with_account(self, at: usize, next: Account) -> Register
-        requires { ⌜ at < 16 ⌝ }
+        requires { ⌜ at < accountsOfRegister ⌝ }
         ensures { λ r. ⌜ r ≡ withAccount self at next ⌝ }
     {
         let accounts = self.accounts;

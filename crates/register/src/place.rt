@@ -1,12 +1,18 @@
 // The account that a message names, changed in its place (document 01, "An account").
+use crate::Register;
 use account::Account;
 ghost use mathlib.Core.Path.{_≡_};
 ghost use Prim.Native.Nat.{_<_};
 ghost use lib.ListN.{set};
+ghost use Rattle.register.specs.Register.{accountsOfRegister};
 
 // The accounts with another one at that number: it is lent, and changed in its place.
-pub(crate) fn placed(accounts: [Account; 16], at: usize, next: Account) -> [Account; 16]
-    requires { ⌜ at < 16 ⌝ }
+pub(crate) fn placed(
+    accounts: [Account; Register::ACCOUNTS],
+    at: usize,
+    next: Account,
+) -> [Account; Register::ACCOUNTS]
+    requires { ⌜ at < accountsOfRegister ⌝ }
     ensures { λ r. ⌜ r ≡ set accounts at next ⌝ }
 {
     let mut all = accounts;
