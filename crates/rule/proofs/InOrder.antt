@@ -18,7 +18,8 @@ use Rattle.rule.specs.Exact.{chosenState}
 use Rattle.rule.specs.Order.{apart, oldestUndecided, withoutDecision, staysHeld, guarded, oldestStaysHeld, order}
 use Rattle.rule.specs.InOrder.{Ordered, InOrderExactly}
 use Rattle.rule.proofs.Lists.{and-left, and-right, and-both, some-parts, parts-some, every-parts, parts-every, every-map, every-number, number-every}
-use Rattle.rule.proofs.Exact.{outcome-bits, exact, decided}
+use Rattle.rule.proofs.Exact.{outcome-bits}
+use Rattle.rule.proofs.Vote.{vote}
 use Rattle.rule.proofs.Apart.{apart-at}
 use Rattle.rule.proofs.Safe.{safe-every, guarded-safe}
 use Rattle.rule.proofs.Order.{order-clauses, clauses-order}
@@ -28,7 +29,7 @@ refuted : (b : Bool) → (b ≡ true → ⊥) → b ≡ false
 refuted true h = absurd (h refl)
 refuted false h = refl
 
-held-verdict : (v : Verdict) → staysHeld v ≡ true → v ≡ hold
+pub held-verdict : (v : Verdict) → staysHeld v ≡ true → v ≡ hold
 held-verdict accept h = absurd (false≢true h)
 held-verdict reject h = absurd (false≢true h)
 held-verdict hold h = refl
@@ -71,7 +72,7 @@ module _ {G E : Type 0} where
       at before (slot t g e d) behind q = undecided-without t g e d (h before behind t g e d q)
 
   -- the oldest event
-  oldest-undecided : (xs behind : List (Slot G E)) (t : ℕ) (g : G) (e : E) (d : Decision) → oldestUndecided xs ≡ true → xs ≡ slot t g e d ∷ behind → d ≡ undecided
+  pub oldest-undecided : (xs behind : List (Slot G E)) (t : ℕ) (g : G) (e : E) (d : Decision) → oldestUndecided xs ≡ true → xs ≡ slot t g e d ∷ behind → d ≡ undecided
   oldest-undecided xs behind t g e undecided h q = refl
   oldest-undecided xs behind t g e committed h q = absurd (false≢true (rw q at h))
 
@@ -121,25 +122,15 @@ module _ {G S E B : Type 0} (R : Rule S E B) where
     where
       by : (b : Bool) → leb (R .room) (length progress) ≡ b → Stays s progress e
       by true q = inl (leb-true (R .room) (length progress) q)
-      by false q =
-          let w = sym (ap (λ w. w .verdict) (decided R e s progress [] .free refl (leb-false (R .room) (length progress) q))) ∙ held-verdict (decide R e s progress .verdict) h in
-          let k = exact R e progress s .held .0 w in
-          inr ((k .0 .0, k .0 .1, ap (R .guard e) (sym (outcome-bits R progress (k .0 .0) s)) ∙ k .0 .2), (k .1 .0, k .1 .1, ap (R .guard e) (sym (outcome-bits R progress (k .1 .0) s)) ∙ k .1 .2))
-
-  full-stays : (s : S) (progress : List (Slot G E)) (e : E) → R .room ≤ length progress → staysHeld (decide R e s progress .verdict) ≡ true
-  full-stays s progress e l = ap (λ w. staysHeld (w .verdict)) (decided R e s progress [] .full refl l)
+      by false q = inr (vote R e s progress [] .held refl (leb-false (R .room) (length progress) q) .0 (held-verdict (decide R e s progress .verdict) h))
 
   stays-verdict : (s : S) (progress : List (Slot G E)) (e : E) → Stays s progress e → staysHeld (decide R e s progress .verdict) ≡ true
-  stays-verdict s progress e (inl l) = full-stays s progress e l
-  stays-verdict s progress e (inr h) = by (leb (R .room) (length progress)) refl
+  stays-verdict s progress e (inl l) = ap staysHeld (vote R e s progress [] .full l .0)
+  stays-verdict s progress e (inr h) = ap staysHeld (by (leb (R .room) (length progress)) refl)
     where
-      by : (b : Bool) → leb (R .room) (length progress) ≡ b → staysHeld (decide R e s progress .verdict) ≡ true
-      by true q = full-stays s progress e (leb-true (R .room) (length progress) q)
-      by false q =
-          ap (λ w. staysHeld (w .verdict)) (decided R e s progress [] .free refl (leb-false (R .room) (length progress) q))
-          ∙ ap staysHeld
-          (exact R e progress s .held .1
-          ((h .0 .0, h .0 .1, ap (R .guard e) (outcome-bits R progress (h .0 .0) s) ∙ h .0 .2), (h .1 .0, h .1 .1, ap (R .guard e) (outcome-bits R progress (h .1 .0) s) ∙ h .1 .2)))
+      by : (b : Bool) → leb (R .room) (length progress) ≡ b → decide R e s progress .verdict ≡ hold
+      by true q = vote R e s progress [] .full (leb-true (R .room) (length progress) q) .0
+      by false q = vote R e s progress [] .held refl (leb-false (R .room) (length progress) q) .1 h
 
   stays-first : (s : S) (progress held behind : List (Slot G E)) (t : ℕ) (g : G) (e : E) (d : Decision)
       → oldestStaysHeld R s progress held ≡ true → held ≡ slot t g e d ∷ behind → Stays s progress e

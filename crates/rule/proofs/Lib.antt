@@ -2,6 +2,7 @@ pub mod Lists
 pub mod Outcomes
 pub mod Ways
 pub mod Exact
+pub mod Vote
 pub mod Safe
 pub mod Ties
 pub mod Apart

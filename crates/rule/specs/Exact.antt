@@ -9,7 +9,7 @@ use lib.Count.{ones}
 use lib.ListN.{length}
 use Rattle.rule.specs.Rule.{Rule, Slot, slot, undecided, committed, accept, reject, hold}
 use Rattle.rule.specs.Outcome.{undecidedOf, appliedIn, bit, outcome, outcomes}
-use Rattle.rule.specs.Weigh.{weigh, unweighed, decideBehind}
+use Rattle.rule.specs.Weigh.{weigh, decideBehind}
 
 module _ {G S E B : Type 0} (R : Rule S E B) where
   -- the state after the events in progress, where `chosen i` says whether the i-th oldest undecided event, counted from 0, is applied
@@ -47,9 +47,9 @@ module _ {G S E B : Type 0} (R : Rule S E B) where
   -- how a request is decided, whatever is in progress and held
   pub record Decided (e : E) (s : S) (progress held : List (Slot G E)) : Type 0 where
     -- "held, with 0 outcomes weighed, if a request is already held on the account,
-    pub behind : (held ≡ [] → ⊥) → decideBehind R held e s progress ≡ unweighed
+    pub behind : (held ≡ [] → ⊥) → decideBehind R held e s progress ≡ record { verdict = hold; weighed = 0 }
     -- or 8 events are in progress";
-    pub full : held ≡ [] → R .room ≤ length progress → decideBehind R held e s progress ≡ unweighed
+    pub full : held ≡ [] → R .room ≤ length progress → decideBehind R held e s progress ≡ record { verdict = hold; weighed = 0 }
     -- "otherwise" as it is weighed, with "the number of outcomes weighed, which equals 2 to the power u";
     pub free : held ≡ [] → length progress < R .room → decideBehind R held e s progress ≡ record { verdict = weigh R e (outcomes R progress s); weighed = 2 ^ undecidedOf progress }
     -- where nothing is in progress nothing is held
