@@ -5,6 +5,8 @@ pub mod Exact
 pub mod Vote
 pub mod Safe
 pub mod Ties
+pub mod Turns
+pub mod Tells
 pub mod Apart
 pub mod Good
 pub mod Taken
