@@ -3,7 +3,7 @@
 -- Assumes nothing.
 use Prim.Native.Nat.{ℕ, _+_, _≤_}
 use mathlib.Core.Path.{_≡_, refl, sym, _∙_, ap}
-use mathlib.Core.Logic.{inl, inr}
+use mathlib.Core.Logic.{_⊎_, inl, inr}
 use mathlib.Core.Bool.{Bool, true, false, false≢true}
 use mathlib.Core.List.{List, [], _∷_, _++_}
 use native.Mathlib.Omega.{arith}
@@ -16,17 +16,20 @@ use Rattle.rule.specs.Order.{oldestUndecided, oldestStaysHeld, staysHeld
 use Rattle.rule.specs.History.{Fate, waiting, votedNo, ongoing, wasApplied, wasDropped, Line, line, note, notes, begun, afterCall, Seen, history, linesFrom, allEntries}
 use Rattle.rule.specs.Vote.{Vote}
 use Rattle.rule.specs.Run.{run, GuardsHold}
-use Rattle.rule.specs.Demand.{serial, course, OneEnd, Turns, endedLine, endEntry, endsOwned, OnlyWaiting, endsWritten, Right, Owned, AllOwned, HistoryOwned, Demand3, Demand3After}
+use Rattle.rule.specs.Demand.{serial, course, OneEnd, Turns, endedLine, endEntry, endsOwned, endsWritten, Right, Owned, AllOwned, HistoryOwned, Demand3, Demand3After}
+use Rattle.rule.specs.Readings.{anyEnd}
 use Rattle.rule.proofs.Outcomes.{total, yes-of, length-yes}
 use Rattle.rule.proofs.Exact.{idle-decide}
 use Rattle.rule.proofs.Safe.{Safe, safe-every}
 use Rattle.rule.proofs.Ties.{Wait, no-more, gone, waits, Live, held-then, no-then, dropped-then, going-then, Past, live-then, no-past, dropped-past, applied-past}
+use Rattle.rule.proofs.Readings.{course-append}
 use Rattle.rule.proofs.Vote.{vote-is}
 use Rattle.rule.proofs.Turns.{total-append, turned}
 use Rattle.rule.proofs.Tells.{past-progress, past-held, past-applied}
 use Rattle.rule.proofs.Good.{Rest}
 use Rattle.rule.proofs.Reached.{history-kept}
-use Rattle.rule.proofs.InOrder.{held-verdict, oldest-undecided}
+use Rattle.rule.proofs.InOrder.{held-verdict, oldest-undecided, every-outcome}
+use Rattle.rule.proofs.Course.{sorted-before, past-sorted, sorted-along}
 
 module _ {G E : Type 0} where
   -- What waits has not run.
@@ -44,6 +47,15 @@ module _ {G E : Type 0} where
   wait-ends no-more = tt
   wait-ends (gone w) = (refl, wait-ends w)
   wait-ends (waits w) = (refl, wait-ends w)
+
+  -- nothing but what waits, or was dropped while it waited
+  abbrev OnlyWaiting : List (Line G E) → Type 0
+  OnlyWaiting [] = Unit {0}
+  OnlyWaiting (line t g e f k ∷ lines) = ((f ≡ waiting) ⊎ (f ≡ wasDropped)) × OnlyWaiting lines
+
+  waiting-at : (before behind : List (Line G E)) (t : ℕ) (g : G) (e : E) (f : Fate) (k : ℕ) → OnlyWaiting (before ++ (line t g e f k ∷ behind)) → (f ≡ waiting) ⊎ (f ≡ wasDropped)
+  waiting-at [] behind t g e f k h = h .0
+  waiting-at (line t′ g′ e′ f′ k′ ∷ before) behind t g e f k h = waiting-at before behind t g e f k (h .1)
 
   wait-only : {lines : List (Line G E)} {held : List (Slot G E)} → Wait lines held → OnlyWaiting lines
   wait-only no-more = tt
@@ -93,14 +105,6 @@ module _ {G E : Type 0} where
   live-passing (no-then l) = (λ q. let z : _≡_ {A = ℕ} 0 1 = cc in absurd (omega arith), live-passing l)
   live-passing (dropped-then l) = (λ q. let z : _≡_ {A = ℕ} 0 1 = cc in absurd (omega arith), live-passing l)
   live-passing (going-then l) = (λ q. let z : _≡_ {A = ℕ} 0 1 = cc in absurd (omega arith), live-passing l)
-
-  course-append : (xs ys : List (Line G E)) → course (xs ++ ys) ≡ course xs ++ course ys
-  course-append [] ys = refl
-  course-append (line t g e waiting k ∷ xs) ys = course-append xs ys
-  course-append (line t g e votedNo k ∷ xs) ys = course-append xs ys
-  course-append (line t g e (ongoing d) k ∷ xs) ys = ap (λ (l : List (Slot G E)). slot t g e d ∷ l) (course-append xs ys)
-  course-append (line t g e wasApplied k ∷ xs) ys = ap (λ (l : List (Slot G E)). slot t g e committed ∷ l) (course-append xs ys)
-  course-append (line t g e wasDropped k ∷ xs) ys = course-append xs ys
 
 module _ {G S E B : Type 0} (R : Rule S E B) where
   past-run : {s s′ : S} {lines : List (Line G E)} {progress held : List (Slot G E)} → Past R s lines s′ progress held → oldestUndecided progress ≡ true → s′ ≡ run R (serial lines) s
@@ -160,9 +164,13 @@ module _ {G S E B : Type 0} (R : Rule S E B) where
         guards = past-guards (h .tied .past) (h .oldest);
         ahead =
             λ before behind t g e d k q.
-            safe-every R (course before) t g e d (course behind) (R .fresh)
-            (rw (← course-append before (line t g e (ongoing d) k ∷ behind)) (rw (← q) (past-course (h .tied .past) (h .tied .safe))));
-        passing = λ before behind t g e k q. passing-split before behind t g e k (rw q at (past-passing (h .tied .past)));
+            every-outcome R (R .guard e) (course before) (R .fresh)
+            (safe-every R (course before) t g e d (course behind) (R .fresh)
+            (rw (← course-append before (line t g e (ongoing d) k ∷ behind)) (rw (← q) (past-course (h .tied .past) (h .tied .safe)))));
+        along = λ before behind chosen q. sorted-along R before (sorted-before before behind (rw q at (past-sorted R (h .tied .past)))) chosen (R .fresh);
+        passing =
+            λ before between behind t t′ g g′ e e′ f k k′ q.
+            waiting-at between behind t′ g′ e′ f k′ (passing-split before (between ++ (line t′ g′ e′ f k′ ∷ behind)) t g e k (rw q at (past-passing (h .tied .past))));
         idle = λ none. nothing-held roomy (a .state) (a .progress) (a .held) none (h .stays);
         oldest = λ behind t g e d q. oldest-undecided (a .progress) behind t g e d (h .oldest) (past-progress R (h .tied .past) ∙ q);
         stays =
@@ -221,17 +229,14 @@ module _ {G S E B : Type 0} (R : Rule S E B) where
         omega (arith, length-yes (endEntry asked) (allEntries seen), length-yes (endedLine asked) (linesFrom [] seen), history-counted seen [] h)
 
   -- All ends, whichever they are: of entries, and of lines by the number beside each.
-  abbrev any-end : ℕ → G → E → Fate → Bool
-  any-end t g e f = true
-
-  ends-written : (xs : List (Entry G E B)) → endsWritten xs ≡ length (keep (endEntry any-end) xs)
+  ends-written : (xs : List (Entry G E B)) → endsWritten xs ≡ length (keep (endEntry anyEnd) xs)
   ends-written [] = refl
   ends-written (voted v t g e n ∷ xs) = omega (arith, ends-written xs)
   ends-written (noted t g ∷ xs) = omega (arith, ends-written xs)
   ends-written (applied t g e b ∷ xs) = omega (arith, ends-written xs)
   ends-written (dropped t g e ∷ xs) = omega (arith, ends-written xs)
 
-  ends-owned : (lines : List (Line G E)) → OneEnd lines → endsOwned lines ≡ length (keep (endedLine any-end) lines)
+  ends-owned : (lines : List (Line G E)) → OneEnd lines → endsOwned lines ≡ length (keep (endedLine anyEnd) lines)
   ends-owned [] h = refl
   ends-owned (line t g e waiting k ∷ lines) h = omega (arith, h .0, ends-owned lines (h .1))
   ends-owned (line t g e votedNo k ∷ lines) h = omega (arith, h .0, ends-owned lines (h .1))
@@ -247,7 +252,7 @@ module _ {G S E B : Type 0} (R : Rule S E B) where
         owned = owned;
         ended = λ asked. all-ended asked seen owned;
         oneEnd = past-ends (h .tied .past);
-        noOther = ends-written (allEntries seen) ∙ all-ended any-end seen owned ∙ sym (ends-owned (linesFrom [] seen) (past-ends (h .tied .past)));
+        noOther = ends-written (allEntries seen) ∙ all-ended anyEnd seen owned ∙ sym (ends-owned (linesFrom [] seen) (past-ends (h .tied .past)));
       }
 
   -- so for every list of messages to a new account, refused ones included, at any room of at least 1.

@@ -83,7 +83,7 @@ module _ {G E : Type 0} where
 
 module _ {G S E B : Type 0} (R : Rule S E B) where
   -- a test in every outcome, by the outcomes' numbers
-  every-outcome : (p : S → Bool) (xs : List (Slot G E)) (s : S) → every p (outcomes R xs s) ≡ true
+  pub every-outcome : (p : S → Bool) (xs : List (Slot G E)) (s : S) → every p (outcomes R xs s) ≡ true
       → (n : ℕ) → n < 2 ^ undecidedOf xs → p (chosenState R xs (bit n) s) ≡ true
   unfolding outcomes
   every-outcome p xs s h n l =

@@ -14,6 +14,9 @@ pub mod Reached
 pub mod Order
 pub mod InOrder
 pub mod Demand
+pub mod Readings
+pub mod Course
+pub mod Follows
 pub mod Filed
 pub mod Refusals
 pub mod Written

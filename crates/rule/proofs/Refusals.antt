@@ -107,7 +107,7 @@ module _ {G S E B : Type 0} (R : Rule S E B) (a : Account G S E) (t : ℕ) (g : 
 
   pub request-refused : (e : E) → RequestRefused R a t g e
   request-refused e =
-      let m = request t g e in
+      let m : Message G E = request t g e in
       let p = some-of (named t) (a .progress) in
       let h = some-of (named t) (a .held) in
       let l = leb (R .bench) (length (a .held)) in
@@ -131,7 +131,7 @@ module _ {G S E B : Type 0} (R : Rule S E B) (a : Account G S E) (t : ℕ) (g : 
 
   pub commit-refused : CommitRefused R a t g
   commit-refused =
-      let m = commit t g in
+      let m : Message G E = commit t g in
       let p = some-of (named t) (a .progress) in
       let h = some-of (named t) (a .held) in
       let c = some-of (namedCommitted t) (a .progress) in
@@ -171,7 +171,7 @@ module _ {G S E B : Type 0} (R : Rule S E B) (a : Account G S E) (t : ℕ) (g : 
 
   pub abort-refused : AbortRefused R a t g
   abort-refused =
-      let m = abort t g in
+      let m : Message G E = abort t g in
       let p = some-of (named t) (a .progress) in
       let h = some-of (named t) (a .held) in
       let c = some-of (namedCommitted t) (a .progress) in

@@ -34,7 +34,7 @@ module _ {G E : Type 0} where
   live-held (going-then l) = live-held l
 
   -- nothing from the first line in progress on has been applied
-  live-applied : {lines : List (Line G E)} {progress held : List (Slot G E)} → Live lines progress held → appliedEvents lines ≡ []
+  pub live-applied : {lines : List (Line G E)} {progress held : List (Slot G E)} → Live lines progress held → appliedEvents lines ≡ []
   live-applied (held-then w) = waited w
     where
       waited : {lines′ : List (Line G E)} {held′ : List (Slot G E)} → Wait lines′ held′ → appliedEvents lines′ ≡ []

@@ -1,14 +1,15 @@
 -- Demand 3, over what can be seen of an account: the messages sent to it and the entries written.
 -- Assumes nothing.
-use Prim.Native.Nat.{ℕ, _+_}
+use Prim.Native.Nat.{ℕ, _+_, _<_, _^_}
 use mathlib.Core.Path.{_≡_}
 use mathlib.Core.Logic.{_⊎_}
 use mathlib.Core.Bool.{Bool, true, false}
 use mathlib.Core.List.{List, [], _∷_, _++_}
 use lib.ListN.{length}
-use Rattle.rule.specs.Lists.{every, keep}
+use Rattle.rule.specs.Lists.{keep}
 use Rattle.rule.specs.Rule.{Rule, Decision, undecided, committed, Slot, slot, Account, Message, Verdict, accept, reject, hold, Entry, voted, noted, applied, dropped, newAccount}
-use Rattle.rule.specs.Outcome.{outcomes}
+use Rattle.rule.specs.Outcome.{undecidedOf, bit}
+use Rattle.rule.specs.Exact.{chosenState}
 use Rattle.rule.specs.Run.{run, GuardsHold}
 use Rattle.rule.specs.Call.{Answer, refused, taken, written, reached}
 use Rattle.rule.specs.History.{Fate, waiting, votedNo, ongoing, wasApplied, wasDropped, Line, line, owners, note, begun, afterCall, Seen, history, linesFrom, allEntries, isEnd}
@@ -80,11 +81,6 @@ module _ {G E : Type 0} where
   endsOwned [] = 0
   endsOwned (line t g e f k ∷ lines) = k + endsOwned lines
 
-  -- nothing but what waits, or was dropped while it waited
-  abbrev pub OnlyWaiting : List (Line G E) → Type 0
-  OnlyWaiting [] = Unit {0}
-  OnlyWaiting (line t g e f k ∷ lines) = ((f ≡ waiting) ⊎ (f ≡ wasDropped)) × OnlyWaiting lines
-
   -- one line turns into another in its place and every other line stays as it is; no other line in progress or held has its transaction
   pub record Turns (t : ℕ) (l l′ : Line G E) (lines lines′ : List (Line G E)) : Type 0 where
     pub before : List (Line G E)
@@ -123,16 +119,21 @@ module _ {G S E B : Type 0} (R : Rule S E B) where
     pub state : a .state ≡ run R (serial lines) (R .fresh)
     -- "Every guard holds at its place in that run."
     pub guards : GuardsHold R (serial lines) (R .fresh)
-    -- "Each accepted event still in progress would find its guard true under every allowed outcome of those before it."
+    -- "Each accepted event still in progress would find its guard true under every allowed outcome of those before it",
     pub ahead :
         (before behind : List (Line G E)) (t : ℕ) (g : G) (e : E) (d : Decision) (k : ℕ)
         → lines ≡ before ++ (line t g e (ongoing d) k ∷ behind)
-        → every (R .guard e) (outcomes R (course before) (R .fresh)) ≡ true
-    -- nothing passes a held request
+        → (n : ℕ) → n < 2 ^ undecidedOf (course before) → R .guard e (chosenState R (course before) (bit n) (R .fresh)) ≡ true
+    -- where those before any place are the events applied, and then those in progress
+    pub along :
+        (before behind : List (Line G E)) (chosen : ℕ → Bool)
+        → lines ≡ before ++ behind
+        → chosenState R (course before) chosen (R .fresh) ≡ chosenState R (inProgress before) chosen (run R (appliedEvents before) (R .fresh))
+    -- nothing passes a held request: behind one that waits there are only such as wait, or were dropped
     pub passing :
-        (before behind : List (Line G E)) (t : ℕ) (g : G) (e : E) (k : ℕ)
-        → lines ≡ before ++ (line t g e waiting k ∷ behind)
-        → OnlyWaiting behind
+        (before between behind : List (Line G E)) (t t′ : ℕ) (g g′ : G) (e e′ : E) (f : Fate) (k k′ : ℕ)
+        → lines ≡ before ++ (line t g e waiting k ∷ (between ++ (line t′ g′ e′ f k′ ∷ behind)))
+        → (f ≡ waiting) ⊎ (f ≡ wasDropped)
     -- "Where nothing is in progress, nothing is held."
     pub idle : a .progress ≡ [] → a .held ≡ []
     -- nothing is left to apply: the oldest event in progress is undecided

@@ -8,6 +8,8 @@ pub mod Run
 pub mod Order
 pub mod History
 pub mod Demand
+pub mod Readings
+pub mod Follows
 pub mod Exact
 pub mod Vote
 pub mod InOrder
