@@ -1,39 +1,38 @@
 -- Demand 3, both halves, from what is kept at rest: each part of "the lines are right" is an induction on the tie between the lines and the account;
--- that there is no entry of an end without its line is counted along the entries, each of which has one owner.
+-- that the entries of ends are those of the lines that have ended is counted along the entries, each of which turns one line.
 -- Assumes nothing.
 use Prim.Native.Nat.{ℕ, _+_, _≤_}
 use mathlib.Core.Path.{_≡_, refl, sym, _∙_, ap}
-use mathlib.Core.Logic.{inl, inr}
-use mathlib.Core.Bool.{Bool, true, false, cond, _&&_, false≢true}
-use mathlib.Core.List.{List, [], _∷_, _++_, map}
+use mathlib.Core.Logic.{_⊎_, inl, inr}
+use mathlib.Core.Bool.{Bool, true, false, false≢true}
+use mathlib.Core.List.{List, [], _∷_, _++_}
 use native.Mathlib.Omega.{arith}
-use lib.Dec.{eqb}
-use Rattle.rule.specs.Rule.{Rule, undecided, committed, Slot, slot, Account, Message, request, commit, abort, accept, reject, hold, Verdict, Entry, voted, noted, applied, dropped, newAccount}
+use lib.ListN.{length}
+use Rattle.rule.specs.Lists.{keep}
+use Rattle.rule.specs.Rule.{Rule, Decision, undecided, committed, Slot, slot, Account, Message, request, commit, abort, accept, reject, hold, Verdict, Entry, voted, noted, applied, dropped, newAccount}
 use Rattle.rule.specs.Weigh.{decide}
 use Rattle.rule.specs.Call.{Answer, refused, taken, written, reached}
 use Rattle.rule.specs.Order.{oldestUndecided, oldestStaysHeld, staysHeld}
-use Rattle.rule.specs.History.{Fate, waiting, votedNo, ongoing, wasApplied, wasDropped, live, Line, line, owners, touch, note, notes, begun, afterCall, Seen, history, linesFrom, allEntries, isEnd, fateBy}
+use Rattle.rule.specs.History.{Fate, waiting, votedNo, ongoing, wasApplied, wasDropped, Line, line, note, notes, begun, afterCall, Seen, history, linesFrom, allEntries}
+use Rattle.rule.specs.Vote.{Vote}
 use Rattle.rule.specs.Run.{run, GuardsHold}
-use Rattle.rule.specs.Demand.{inProgress, onHold, serial, course, OneEnd, endsOwned, OnlyWaiting, endsWritten, Right, Owned, AllOwned, HistoryOwned, Demand3, Demand3After}
-use Rattle.rule.proofs.Outcomes.{total}
+use Rattle.rule.specs.Demand.{serial, course, OneEnd, Turns, endedLine, endEntry, endsOwned, endsWritten, Right, Owned, AllOwned, HistoryOwned, Demand3, Demand3After}
+use Rattle.rule.specs.Readings.{anyEnd}
+use Rattle.rule.proofs.Outcomes.{total, yes-of, length-yes}
 use Rattle.rule.proofs.Exact.{idle-decide}
 use Rattle.rule.proofs.Safe.{Safe, safe-every}
 use Rattle.rule.proofs.Ties.{Wait, no-more, gone, waits, Live, held-then, no-then, dropped-then, going-then, Past, live-then, no-past, dropped-past, applied-past}
+use Rattle.rule.proofs.Readings.{course-append}
+use Rattle.rule.proofs.Vote.{vote-is}
+use Rattle.rule.proofs.Turns.{total-append, turned}
+use Rattle.rule.proofs.Tells.{past-progress, past-held, past-applied}
 use Rattle.rule.proofs.Good.{Rest}
 use Rattle.rule.proofs.Reached.{history-kept}
+use Rattle.rule.proofs.InOrder.{held-verdict, oldest-undecided, every-outcome}
+use Rattle.rule.proofs.Course.{sorted-before, past-sorted, sorted-along}
 
 module _ {G E : Type 0} where
-  -- What waits is in no other list.
-  wait-progress : {lines : List (Line G E)} {held : List (Slot G E)} → Wait lines held → inProgress lines ≡ []
-  wait-progress no-more = refl
-  wait-progress (gone w) = wait-progress w
-  wait-progress (waits w) = wait-progress w
-
-  wait-held : {lines : List (Line G E)} {held : List (Slot G E)} → Wait lines held → held ≡ onHold lines
-  wait-held no-more = refl
-  wait-held (gone w) = wait-held w
-  wait-held (waits {t = t} {g = g} {e = e} w) = ap (λ (l : List (Slot G E)). slot t g e undecided ∷ l) (wait-held w)
-
+  -- What waits has not run.
   wait-serial : {lines : List (Line G E)} {held : List (Slot G E)} → Wait lines held → serial lines ≡ []
   wait-serial no-more = refl
   wait-serial (gone w) = wait-serial w
@@ -49,24 +48,21 @@ module _ {G E : Type 0} where
   wait-ends (gone w) = (refl, wait-ends w)
   wait-ends (waits w) = (refl, wait-ends w)
 
+  -- nothing but what waits, or was dropped while it waited
+  abbrev OnlyWaiting : List (Line G E) → Type 0
+  OnlyWaiting [] = Unit {0}
+  OnlyWaiting (line t g e f k ∷ lines) = ((f ≡ waiting) ⊎ (f ≡ wasDropped)) × OnlyWaiting lines
+
+  waiting-at : (before behind : List (Line G E)) (t : ℕ) (g : G) (e : E) (f : Fate) (k : ℕ) → OnlyWaiting (before ++ (line t g e f k ∷ behind)) → (f ≡ waiting) ⊎ (f ≡ wasDropped)
+  waiting-at [] behind t g e f k h = h .0
+  waiting-at (line t′ g′ e′ f′ k′ ∷ before) behind t g e f k h = waiting-at before behind t g e f k (h .1)
+
   wait-only : {lines : List (Line G E)} {held : List (Slot G E)} → Wait lines held → OnlyWaiting lines
   wait-only no-more = tt
   wait-only (gone w) = (inr refl, wait-only w)
   wait-only (waits w) = (inl refl, wait-only w)
 
   -- From the first line in progress on: the same of the live lines.
-  live-progress : {lines : List (Line G E)} {progress held : List (Slot G E)} → Live lines progress held → progress ≡ inProgress lines
-  live-progress (held-then w) = sym (wait-progress w)
-  live-progress (no-then l) = live-progress l
-  live-progress (dropped-then l) = live-progress l
-  live-progress (going-then {t = t} {g = g} {e = e} {d = d} l) = ap (λ (xs : List (Slot G E)). slot t g e d ∷ xs) (live-progress l)
-
-  live-held : {lines : List (Line G E)} {progress held : List (Slot G E)} → Live lines progress held → held ≡ onHold lines
-  live-held (held-then w) = wait-held w
-  live-held (no-then l) = live-held l
-  live-held (dropped-then l) = live-held l
-  live-held (going-then l) = live-held l
-
   -- behind an oldest event that is undecided nothing has run
   live-serial : {lines : List (Line G E)} {progress held : List (Slot G E)} → Live lines progress held → oldestUndecided progress ≡ true → serial lines ≡ []
   live-serial (held-then w) o = wait-serial w
@@ -110,27 +106,7 @@ module _ {G E : Type 0} where
   live-passing (dropped-then l) = (λ q. let z : _≡_ {A = ℕ} 0 1 = cc in absurd (omega arith), live-passing l)
   live-passing (going-then l) = (λ q. let z : _≡_ {A = ℕ} 0 1 = cc in absurd (omega arith), live-passing l)
 
-  course-append : (xs ys : List (Line G E)) → course (xs ++ ys) ≡ course xs ++ course ys
-  course-append [] ys = refl
-  course-append (line t g e waiting k ∷ xs) ys = course-append xs ys
-  course-append (line t g e votedNo k ∷ xs) ys = course-append xs ys
-  course-append (line t g e (ongoing d) k ∷ xs) ys = ap (λ (l : List (Slot G E)). slot t g e d ∷ l) (course-append xs ys)
-  course-append (line t g e wasApplied k ∷ xs) ys = ap (λ (l : List (Slot G E)). slot t g e committed ∷ l) (course-append xs ys)
-  course-append (line t g e wasDropped k ∷ xs) ys = course-append xs ys
-
 module _ {G S E B : Type 0} (R : Rule S E B) where
-  past-progress : {s s′ : S} {lines : List (Line G E)} {progress held : List (Slot G E)} → Past R s lines s′ progress held → progress ≡ inProgress lines
-  past-progress (live-then l) = live-progress l
-  past-progress (no-past l) = past-progress l
-  past-progress (dropped-past l) = past-progress l
-  past-progress (applied-past q l) = past-progress l
-
-  past-held : {s s′ : S} {lines : List (Line G E)} {progress held : List (Slot G E)} → Past R s lines s′ progress held → held ≡ onHold lines
-  past-held (live-then l) = live-held l
-  past-held (no-past l) = past-held l
-  past-held (dropped-past l) = past-held l
-  past-held (applied-past q l) = past-held l
-
   past-run : {s s′ : S} {lines : List (Line G E)} {progress held : List (Slot G E)} → Past R s lines s′ progress held → oldestUndecided progress ≡ true → s′ ≡ run R (serial lines) s
   past-run (live-then l) o = rw (live-serial l o)
   past-run (no-past l) o = past-run l o
@@ -172,70 +148,101 @@ module _ {G S E B : Type 0} (R : Rule S E B) where
       not-held reject q k = false≢true k
       not-held hold q k = idle-decide G R e s roomy q
 
+  -- The oldest held request's vote is that it is held.
+  held-vote : (s : S) (progress : List (Slot G E)) (t : ℕ) (g : G) (e : E) (d : Decision) (behind : List (Slot G E))
+      → oldestStaysHeld R s progress (slot t g e d ∷ behind) ≡ true → (n : ℕ) × Vote R [] progress s e hold n
+  held-vote s progress t g e d behind h =
+      let w = decide R e s progress in
+      (w .weighed, vote-is R e s progress [] hold (w .weighed) (ap (λ (v : Verdict). record { verdict = v; weighed = w .weighed }) (held-verdict (w .verdict) h)))
+
   rest-right : 1 ≤ R .room → (a : Account G S E) (lines : List (Line G E)) → Rest R a lines → Right R a lines
   rest-right roomy a lines h =
       record {
-        progress = past-progress (h .tied .past);
-        held = past-held (h .tied .past);
+        progress = past-progress R (h .tied .past);
+        held = past-held R (h .tied .past);
         state = past-run (h .tied .past) (h .oldest);
         guards = past-guards (h .tied .past) (h .oldest);
         ahead =
             λ before behind t g e d k q.
-            safe-every R (course before) t g e d (course behind) (R .fresh)
-            (rw (← course-append before (line t g e (ongoing d) k ∷ behind)) (rw (← q) (past-course (h .tied .past) (h .tied .safe))));
-        passing = λ before behind t g e k q. passing-split before behind t g e k (rw q at (past-passing (h .tied .past)));
+            every-outcome R (R .guard e) (course before) (R .fresh)
+            (safe-every R (course before) t g e d (course behind) (R .fresh)
+            (rw (← course-append before (line t g e (ongoing d) k ∷ behind)) (rw (← q) (past-course (h .tied .past) (h .tied .safe)))));
+        along = λ before behind chosen q. sorted-along R before (sorted-before before behind (rw q at (past-sorted R (h .tied .past)))) chosen (R .fresh);
+        passing =
+            λ before between behind t t′ g g′ e e′ f k k′ q.
+            waiting-at between behind t′ g′ e′ f k′ (passing-split before (between ++ (line t′ g′ e′ f k′ ∷ behind)) t g e k (rw q at (past-passing (h .tied .past))));
         idle = λ none. nothing-held roomy (a .state) (a .progress) (a .held) none (h .stays);
+        oldest = λ behind t g e d q. oldest-undecided (a .progress) behind t g e d (h .oldest) (past-progress R (h .tied .past) ∙ q);
+        stays =
+            λ behind t g e d q.
+            rw (← past-progress R (h .tied .past), past-applied R (h .tied .past))
+            (held-vote (a .state) (a .progress) t g e d behind (rw (past-held R (h .tied .past) ∙ q) at (h .stays)));
       }
 
-  -- Counting the ends: an entry adds to the lines that own it, and to no other.
-  ends-touch : (u : ℕ) (f : Fate) (j : ℕ) (lines : List (Line G E)) → endsOwned (map (touch u f j) lines) ≡ endsOwned lines + total (λ (x : Line G E). j) (owners u lines)
-  ends-touch u f j [] = refl
-  ends-touch u f j (line t g e f′ k ∷ lines) = go (live f′ && eqb u t) (ends-touch u f j lines)
-    where
-      go : (b : Bool) → endsOwned (map (touch u f j) lines) ≡ endsOwned lines + total (λ (x : Line G E). j) (owners u lines)
-          → endsOwned (cond b (line t g e f (k + j)) (line t g e f′ k) ∷ map (touch u f j) lines)
-          ≡ (k + endsOwned lines) + total (λ (x : Line G E). j) (cond b (line t g e f′ k ∷ owners u lines) (owners u lines))
-      go true h = omega arith
-      go false h = omega arith
+  -- Counting the ends that are asked for, along a history: an entry turns one line, and counts exactly if that line has ended with it.
+  module _ (asked : ℕ → G → E → Fate → Bool) where
+    abbrev ofLines : List (Line G E) → ℕ
+    ofLines lines = total (yes-of (endedLine asked)) lines
 
-  ends-one : (u : ℕ) (f : Fate) (j : ℕ) (lines : List (Line G E)) (l : Line G E) → owners u lines ≡ l ∷ [] → endsOwned (map (touch u f j) lines) ≡ endsOwned lines + j
-  ends-one u f j lines l h = ends-touch u f j lines ∙ rw h (omega arith)
+    abbrev ofEntries : List (Entry G E B) → ℕ
+    ofEntries xs = total (yes-of (endEntry asked)) xs
 
-  ends-note : (lines : List (Line G E)) (x : Entry G E B) → Owned R lines x → endsOwned (note lines x) ≡ endsOwned lines + isEnd x
-  ends-note lines (voted v t g e n) h = ends-one t (fateBy v) 0 lines (line t g e waiting 0) h
-  ends-note lines (noted t g) h = ends-one t (ongoing committed) 0 lines (line t (h .0) (h .1) (ongoing undecided) 0) (h .2)
-  ends-note lines (applied t g e b) h = ends-one t wasApplied 1 lines (line t g e (ongoing committed) 0) (h .0)
-  ends-note lines (dropped t g e) (inl h) = ends-one t wasDropped 1 lines (line t g e (ongoing undecided) 0) h
-  ends-note lines (dropped t g e) (inr h) = ends-one t wasDropped 1 lines (line t g e waiting 0) h
+    turns-counted : (t : ℕ) (l l′ : Line G E) (lines lines′ : List (Line G E)) → endedLine asked l ≡ false → Turns t l l′ lines lines′
+        → ofLines lines′ ≡ ofLines lines + yes-of (endedLine asked) l′
+    turns-counted t l l′ lines lines′ q h =
+        let none : yes-of (endedLine asked) l ≡ 0 = rw q in
+        omega (arith, turned (yes-of (endedLine asked)) t l l′ lines lines′ h)
 
-  ends-notes : (xs : List (Entry G E B)) (lines : List (Line G E)) → AllOwned R lines xs → endsOwned (notes lines xs) ≡ endsOwned lines + endsWritten xs
-  ends-notes [] lines h = omega arith
-  ends-notes (x ∷ xs) lines h = omega (arith, ends-notes xs (note lines x) (h .1), ends-note lines x (h .0))
+    note-counted : (lines : List (Line G E)) (x : Entry G E B) → Owned R lines x → ofLines (note lines x) ≡ ofLines lines + yes-of (endEntry asked) x
+    note-counted lines (voted accept t g e n) h = turns-counted t (line t g e waiting 0) (line t g e (ongoing undecided) 0) lines (note {B = B} lines (voted accept t g e n)) refl (h .0)
+    note-counted lines (voted reject t g e n) h = turns-counted t (line t g e waiting 0) (line t g e votedNo 0) lines (note {B = B} lines (voted reject t g e n)) refl (h .0)
+    note-counted lines (voted hold t g e n) h = turns-counted t (line t g e waiting 0) (line t g e waiting 0) lines (note {B = B} lines (voted hold t g e n)) refl (h .0)
+    note-counted lines (noted t g) h =
+        turns-counted t (line t (h .0) (h .1) (ongoing undecided) 0) (line t (h .0) (h .1) (ongoing committed) 0) lines (note {B = B} lines (noted t g)) refl (h .2)
+    note-counted lines (applied t g e b) h = turns-counted t (line t g e (ongoing committed) 0) (line t g e wasApplied 1) lines (note lines (applied t g e b)) refl (h .0)
+    note-counted lines (dropped t g e) (inl h) = turns-counted t (line t g e (ongoing undecided) 0) (line t g e wasDropped 1) lines (note {B = B} lines (dropped t g e)) refl h
+    note-counted lines (dropped t g e) (inr h) = turns-counted t (line t g e waiting 0) (line t g e wasDropped 1) lines (note {B = B} lines (dropped t g e)) refl h
 
-  ends-append : (lines : List (Line G E)) (t : ℕ) (g : G) (e : E) → endsOwned (lines ++ (line t g e waiting 0 ∷ [])) ≡ endsOwned lines
-  ends-append [] t g e = refl
-  ends-append (line t′ g′ e′ f k ∷ lines) t g e = ap (λ (n : ℕ). k + n) (ends-append lines t g e)
+    notes-counted : (xs : List (Entry G E B)) (lines : List (Line G E)) → AllOwned R lines xs → ofLines (notes lines xs) ≡ ofLines lines + ofEntries xs
+    notes-counted [] lines h = omega arith
+    notes-counted (x ∷ xs) lines h = omega (arith, notes-counted xs (note lines x) (h .1), note-counted lines x (h .0))
 
-  ends-begun : (lines : List (Line G E)) (m : Message G E) (answer : Answer G E B) → endsOwned (begun lines m answer) ≡ endsOwned lines
-  ends-begun lines m (refused n) = refl
-  ends-begun lines (request t g e) (taken xs) = ends-append lines t g e
-  ends-begun lines (commit t g) (taken xs) = refl
-  ends-begun lines (abort t g) (taken xs) = refl
+    begun-counted : (lines : List (Line G E)) (m : Message G E) (answer : Answer G E B) → ofLines (begun lines m answer) ≡ ofLines lines
+    begun-counted lines m (refused n) = refl
+    begun-counted lines (request t g e) (taken xs) = omega (arith, total-append (yes-of (endedLine asked)) lines (line t g e waiting 0 ∷ []))
+    begun-counted lines (commit t g) (taken xs) = refl
+    begun-counted lines (abort t g) (taken xs) = refl
 
-  written-append : (xs ys : List (Entry G E B)) → endsWritten (xs ++ ys) ≡ endsWritten xs + endsWritten ys
-  written-append [] ys = omega arith
-  written-append (x ∷ xs) ys = omega (arith, written-append xs ys)
+    history-counted : (seen : List (Seen G E B)) (lines : List (Line G E)) → HistoryOwned R lines seen → ofLines (linesFrom lines seen) ≡ ofLines lines + ofEntries (allEntries seen)
+    history-counted [] lines h = omega arith
+    history-counted (x ∷ seen) lines h =
+        omega (
+          arith,
+          history-counted seen (afterCall lines (x .message) (x .answer)) (h .2),
+          notes-counted (written (x .answer)) (begun lines (x .message) (x .answer)) (h .0),
+          begun-counted lines (x .message) (x .answer),
+          total-append (yes-of (endEntry asked)) (written (x .answer)) (allEntries seen),
+        )
 
-  ends-history : (seen : List (Seen G E B)) (lines : List (Line G E)) → HistoryOwned R lines seen → endsOwned (linesFrom lines seen) ≡ endsOwned lines + endsWritten (allEntries seen)
-  ends-history [] lines h = omega arith
-  ends-history (x ∷ seen) lines h =
-      omega (
-        arith,
-        ends-history seen (afterCall lines (x .message) (x .answer)) (h .1),
-        ends-notes (written (x .answer)) (begun lines (x .message) (x .answer)) (h .0),
-        ends-begun lines (x .message) (x .answer),
-        written-append (written (x .answer)) (allEntries seen),
-      )
+    all-ended : (seen : List (Seen G E B)) → HistoryOwned R [] seen → length (keep (endEntry asked) (allEntries seen)) ≡ length (keep (endedLine asked) (linesFrom [] seen))
+    all-ended seen h =
+        omega (arith, length-yes (endEntry asked) (allEntries seen), length-yes (endedLine asked) (linesFrom [] seen), history-counted seen [] h)
+
+  -- All ends, whichever they are: of entries, and of lines by the number beside each.
+  ends-written : (xs : List (Entry G E B)) → endsWritten xs ≡ length (keep (endEntry anyEnd) xs)
+  ends-written [] = refl
+  ends-written (voted v t g e n ∷ xs) = omega (arith, ends-written xs)
+  ends-written (noted t g ∷ xs) = omega (arith, ends-written xs)
+  ends-written (applied t g e b ∷ xs) = omega (arith, ends-written xs)
+  ends-written (dropped t g e ∷ xs) = omega (arith, ends-written xs)
+
+  ends-owned : (lines : List (Line G E)) → OneEnd lines → endsOwned lines ≡ length (keep (endedLine anyEnd) lines)
+  ends-owned [] h = refl
+  ends-owned (line t g e waiting k ∷ lines) h = omega (arith, h .0, ends-owned lines (h .1))
+  ends-owned (line t g e votedNo k ∷ lines) h = omega (arith, h .0, ends-owned lines (h .1))
+  ends-owned (line t g e (ongoing d) k ∷ lines) h = omega (arith, h .0, ends-owned lines (h .1))
+  ends-owned (line t g e wasApplied k ∷ lines) h = omega (arith, h .0, ends-owned lines (h .1))
+  ends-owned (line t g e wasDropped k ∷ lines) h = omega (arith, h .0, ends-owned lines (h .1))
 
   -- Demand 3 of an account at rest whose entries have their owners,
   pub kept-demand3 : 1 ≤ R .room → (a : Account G S E) (seen : List (Seen G E B)) → Rest R a (linesFrom [] seen) → HistoryOwned R [] seen → Demand3 R a seen
@@ -243,8 +250,9 @@ module _ {G S E B : Type 0} (R : Rule S E B) where
       record {
         right = rest-right roomy a (linesFrom [] seen) h;
         owned = owned;
+        ended = λ asked. all-ended asked seen owned;
         oneEnd = past-ends (h .tied .past);
-        noOther = omega (arith, ends-history seen [] owned);
+        noOther = ends-written (allEntries seen) ∙ all-ended anyEnd seen owned ∙ sym (ends-owned (linesFrom [] seen) (past-ends (h .tied .past)));
       }
 
   -- so for every list of messages to a new account, refused ones included, at any room of at least 1.

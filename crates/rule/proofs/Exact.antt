@@ -1,21 +1,21 @@
 -- Weighing is exact, and what the numbers of outcomes say: from the laws of numbers in a row, by cases on the two tests of `weigh`.
 -- Assumes nothing.
-use Prim.Native.Nat.{ℕ, suc, _+_, _/_, _%_, _^_, _<_, _≤_}
+use Prim.Native.Nat.{ℕ, zero, suc, _+_, _*_, _/_, _%_, _^_, _<_, _≤_}
 use mathlib.Core.Path.{_≡_, refl, sym, _∙_, ap, ap₂, fun-ext}
-use mathlib.Core.Logic.{_⊎_, ⊎-elim}
+use mathlib.Core.Logic.{⊎-elim}
 use mathlib.Core.Bool.{Bool, true, false, cond, _&&_, _||_, true≢false}
-use mathlib.Core.List.{List, [], _∷_}
+use mathlib.Core.List.{List, [], _∷_, _++_, map}
 use native.Mathlib.Omega.{arith}
 use lib.Dec.{eqb}
 use lib.Pow.{pow-pos, shr-shr}
 use lib.Count.{ones, ones-step}
-use lib.ListN.{length}
+use lib.ListN.{length, getD}
 use borrow.Author.Tests.{lt-leb, le-leb}
 use Rattle.rule.specs.Lists.{every, some-of, numbers}
 use Rattle.rule.specs.Rule.{Rule, Slot, slot, undecided, committed, Verdict, accept, reject, hold}
 use Rattle.rule.specs.Outcome.{undecidedOf, appliedIn, bit, outcome, outcomes}
 use Rattle.rule.specs.Weigh.{weigh, decide}
-use Rattle.rule.specs.Exact.{chosenState, guardIn, Numbered, Exact, Decided}
+use Rattle.rule.specs.Exact.{numberOf, Choices, chosenState, guardIn, Numbered, Exact, Decided}
 use Rattle.rule.proofs.Lists.{either, every-map, some-map, every-number, number-every, some-number, no-number, number-none, fails-number}
 use Rattle.rule.proofs.Outcomes.{twice, outcomes-length}
 
@@ -27,8 +27,52 @@ bit-suc n i =
     let e : 1 + i ≡ suc i = omega arith in
     ap (λ (k : ℕ). eqb (k % 2) 1) (ap (λ (k : ℕ). n / 2 ^ k) (sym e) ∙ sym (shr-shr n 1 i))
 
+-- Numbers and choices: the lowest bit first.
+choice-below : (u : ℕ) (chosen : ℕ → Bool) → numberOf u chosen < 2 ^ u
+choice-below zero chosen = omega arith
+choice-below (suc u) chosen = go (chosen 0) (choice-below u (λ (i : ℕ). chosen (suc i)))
+  where
+    go : (b : Bool) → numberOf u (λ (i : ℕ). chosen (suc i)) < 2 ^ u → cond b 1 0 + 2 * numberOf u (λ (i : ℕ). chosen (suc i)) < 2 ^ suc u
+    go true h = omega (arith, twice u)
+    go false h = omega (arith, twice u)
+
+lowest : (b : Bool) (n : ℕ) → (eqb ((cond b 1 0 + 2 * n) % 2) 1 ≡ b) × ((cond b 1 0 + 2 * n) / 2 ≡ n)
+lowest true n = let z : (1 + 2 * n) % 2 ≡ 1 = omega arith in (rw z, omega arith)
+lowest false n = let z : (0 + 2 * n) % 2 ≡ 0 = omega arith in (rw z, omega arith)
+
+choice-bits : (u : ℕ) (chosen : ℕ → Bool) (i : ℕ) → i < u → bit (numberOf u chosen) i ≡ chosen i
+choice-bits zero chosen i l = absurd (omega arith)
+choice-bits (suc u) chosen zero l = bit-zero (numberOf (suc u) chosen) ∙ lowest (chosen 0) (numberOf u (λ (i : ℕ). chosen (suc i))) .0
+choice-bits (suc u) chosen (suc i) l =
+    bit-suc (numberOf (suc u) chosen) i ∙ ap (λ (n : ℕ). bit n i) (lowest (chosen 0) (numberOf u (λ (j : ℕ). chosen (suc j))) .1)
+    ∙ choice-bits u (λ (j : ℕ). chosen (suc j)) i (omega arith)
+
+rest-bit : (n : ℕ) → cond (eqb (n % 2) 1) 1 0 ≡ n % 2
+rest-bit n = go (n % 2) (omega arith)
+  where
+    go : (k : ℕ) → k < 2 → cond (eqb k 1) 1 0 ≡ k
+    go zero l = refl
+    go (suc zero) l = refl
+    go (suc (suc k)) l = absurd (omega arith)
+
+bits-whole : (u n : ℕ) → n < 2 ^ u → numberOf u (bit n) ≡ n
+bits-whole zero n l = omega arith
+bits-whole (suc u) n l =
+    let rest = ap (numberOf u) (fun-ext (bit-suc n)) ∙ bits-whole u (n / 2) (omega (arith, twice u)) in
+    let low = ap (λ (b : Bool). cond b 1 0) (bit-zero n) ∙ rest-bit n in
+    omega (arith, rest, low)
+
+pub choices : (u : ℕ) → Choices u
+choices u = record { below = choice-below u; chooses = choice-bits u; whole = bits-whole u }
+
+-- the n-th of a row
+number-at : {A : Type 0} (f : ℕ → A) (k m n : ℕ) (other : A) → n < m → getD (map f (numbers k m)) n other ≡ f (k + n)
+number-at f k zero n other l = absurd (omega arith)
+number-at f k (suc m) zero other l = ap f (let z : k ≡ k + 0 = omega arith in z)
+number-at f k (suc m) (suc n) other l = number-at f (suc k) m n other (omega arith) ∙ ap f (let z : suc k + n ≡ k + suc n = omega arith in z)
+
 module _ {G S E B : Type 0} (R : Rule S E B) where
-  outcome-bits : (xs : List (Slot G E)) (n : ℕ) (s : S) → outcome R xs n s ≡ chosenState R xs (bit n) s
+  pub outcome-bits : (xs : List (Slot G E)) (n : ℕ) (s : S) → outcome R xs n s ≡ chosenState R xs (bit n) s
   outcome-bits [] n s = refl
   outcome-bits (slot t g e committed ∷ xs) n s = outcome-bits xs n (R .effect e s)
   outcome-bits (slot t g e undecided ∷ xs) n s =
@@ -44,8 +88,35 @@ applied-ones (slot t g e undecided ∷ xs) n h =
     ap (λ (k : ℕ). n % 2 + k) (applied-ones xs (n / 2) (omega (arith, twice (undecidedOf xs)))) ∙ sym (ones-step n)
 
 module _ {G S E B : Type 0} (R : Rule S E B) where
+  -- the state of a choice, parted anywhere: what is chosen behind is counted on from those before
+  chosen-append : (before behind : List (Slot G E)) (chosen : ℕ → Bool) (s : S)
+      → chosenState R (before ++ behind) chosen s ≡ chosenState R behind (λ (i : ℕ). chosen (undecidedOf before + i)) (chosenState R before chosen s)
+  chosen-append [] behind chosen s = ap (λ (c : ℕ → Bool). chosenState R behind c s) (fun-ext (λ i. ap chosen (let z : i ≡ 0 + i = omega arith in z)))
+  chosen-append (slot t g e committed ∷ before) behind chosen s = chosen-append before behind chosen (R .effect e s)
+  chosen-append (slot t g e undecided ∷ before) behind chosen s =
+      chosen-append before behind (λ (i : ℕ). chosen (suc i)) (cond (chosen 0) (R .effect e s) s)
+      ∙ ap (λ (c : ℕ → Bool). chosenState R behind c (chosenState R before (λ (i : ℕ). chosen (suc i)) (cond (chosen 0) (R .effect e s) s)))
+      (fun-ext (λ i. ap chosen (let z : suc (undecidedOf before + i) ≡ suc (undecidedOf before) + i = omega arith in z)))
+
   pub numbered : (xs : List (Slot G E)) (s : S) → Numbered R xs s
-  numbered xs s = record { count = outcomes-length R xs s; bits = λ n. outcome-bits R xs n s; applied = applied-ones xs }
+  unfolding outcomes
+  numbered xs s =
+      record {
+        count = outcomes-length R xs s;
+        bits = λ n. outcome-bits R xs n s;
+        listed = λ n other l. number-at (λ (k : ℕ). outcome R xs k s) 0 (2 ^ undecidedOf xs) n other l ∙ ap (λ (k : ℕ). outcome R xs k s) (let z : 0 + n ≡ n = omega arith in z);
+        undecidedOne =
+            λ before behind t g e chosen q.
+            let u = undecidedOf before in
+            let next : (i : ℕ) → u + suc i ≡ suc u + i = λ i. omega arith in
+            let here : u + 0 ≡ u = omega arith in
+            rw q
+            (chosen-append before (slot t g e undecided ∷ behind) chosen s
+            ∙ ap₂ (λ (c : ℕ → Bool) (b : Bool). chosenState R behind c (cond b (R .effect e (chosenState R before chosen s)) (chosenState R before chosen s)))
+            (fun-ext (λ i. ap chosen (next i))) (ap chosen here));
+        committedOne = λ before behind t g e chosen q. rw q (chosen-append before (slot t g e committed ∷ behind) chosen s);
+        applied = applied-ones xs;
+      }
 
 -- the two tests of a weighing, from its verdict and back
 verdict : Bool → Bool → Verdict

@@ -13,17 +13,19 @@ use borrow.Author.Tests.{leb-false, eq-eqb}
 use Rattle.rule.specs.Lists.{every, some-of}
 use Rattle.rule.specs.Rule.{Rule, Decision, undecided, committed, Slot, slot, Account, Verdict, accept, reject, hold, Entry, voted, applied}
 use Rattle.rule.specs.Outcome.{outcomes}
-use Rattle.rule.specs.Weigh.{unweighed, weigh, decide}
+use Rattle.rule.specs.Weigh.{Weighing, unweighed, weigh, decide}
 use Rattle.rule.specs.Step.{Step, named, drainBy, drain, settle}
 use Rattle.rule.specs.Order.{apart, oldestUndecided, oldestStaysHeld}
-use Rattle.rule.specs.History.{waiting, votedNo, ongoing, Line, line, owners, note, notes}
-use Rattle.rule.specs.Run.{run}
-use Rattle.rule.specs.Demand.{appliedEvents, Owned, AllOwned}
+use Rattle.rule.specs.History.{waiting, votedNo, ongoing, wasApplied, fateBy, Line, line, owners, note, notes}
+use Rattle.rule.specs.Demand.{appliedEvents, Voted, Owned, AllOwned}
 use Rattle.rule.proofs.Lists.{or-left, or-right, keep-none, some-append}
 use Rattle.rule.proofs.Apart.{apart-at, apart-less}
 use Rattle.rule.proofs.Safe.{Safe, safe-accept}
 use Rattle.rule.proofs.Ways.{every-way}
-use Rattle.rule.proofs.Ties.{Wait, no-more, gone, waits, Live, held-then, no-then, dropped-then, going-then, Past, live-then, no-past, dropped-past, applied-past, live-accept, live-reject, past-noting, past-apply, past-owners, past-undecided}
+use Rattle.rule.proofs.Vote.{vote-is}
+use Rattle.rule.proofs.Turns.{turns-at}
+use Rattle.rule.proofs.Tells.{past-progress, past-applied, past-first, past-oldest, run-last}
+use Rattle.rule.proofs.Ties.{Past, live-accept, live-reject, past-noting, past-apply, past-owners, past-undecided}
 
 module _ {G S E B : Type 0} (R : Rule S E B) where
   pub record Tied (s : S) (progress held : List (Slot G E)) (lines : List (Line G E)) : Type 0 where
@@ -65,18 +67,27 @@ module _ {G S E B : Type 0} (R : Rule S E B) where
 
   module _ (s : S) (progress held : List (Slot G E)) (t : ℕ) (g : G) (e : E) (lines : List (Line G E)) where
     -- the oldest held request is the one owner of an entry of its transaction
-    pub oldest-owner : Tied s progress (slot t g e undecided ∷ held) lines → owners t lines ≡ line t g e waiting 0 ∷ []
+    oldest-owner : Tied s progress (slot t g e undecided ∷ held) lines → owners t lines ≡ line t g e waiting 0 ∷ []
     oldest-owner h =
         let p = apart-at progress t g e undecided held (h .transactions) in
         past-owners R t (h .past)
         ∙ rw (keep-none (named t) progress (p .0), eq-eqb t t refl, keep-none (named t) held (p .1))
 
+    -- and the vote on it, as if nothing were held, is the entry's
+    oldest-vote : (v : Verdict) (n : ℕ) → Tied s progress (slot t g e undecided ∷ held) lines → decide R e s progress ≡ record { verdict = v; weighed = n }
+        → Voted R lines v (fateBy v) t g e n
+    oldest-vote v n h q =
+        let first = past-first R t g e undecided (h .past) in (
+          turns-at t g e waiting (fateBy v) 0 lines (first .0) (first .1) refl (first .2) (oldest-owner h),
+          rw (first .3, ← past-progress R (h .past), past-applied R (h .past)) (vote-is R e s progress [] v n q),
+        )
+
     -- The oldest held request is accepted,
-    pub accepted : (n : ℕ) → Tied s progress (slot t g e undecided ∷ held) lines → decide R e s progress .verdict ≡ accept
+    pub accepted : (n : ℕ) → Tied s progress (slot t g e undecided ∷ held) lines → decide R e s progress ≡ record { verdict = accept; weighed = n }
         → Tied s (progress ++ (slot t g e undecided ∷ [])) held (note lines (vote accept t g e n)) × Owned R lines (voted accept t g e n)
     accepted n h v =
         let p = apart-at progress t g e undecided held (h .transactions) in
-        let q = decide-accept e s progress v in (
+        let q = decide-accept e s progress (ap (λ (w : Weighing). w .verdict) v) in (
           record {
             past = past-noting R t (ongoing undecided) 0 (λ lines′ l. live-accept t g e undecided l (p .0) (p .1)) (h .past);
             safe = safe-accept R t g e undecided progress s (h .safe) (every-way R (R .guard e) progress s (q .1));
@@ -84,13 +95,13 @@ module _ {G S E B : Type 0} (R : Rule S E B) where
             few = rw (length-append progress (slot t g e undecided ∷ [])) (omega (arith, q .0));
             fewHeld = omega (arith, h .fewHeld);
           },
-          oldest-owner h,
+          oldest-vote accept n h v,
         )
 
     -- or it is rejected.
-    pub rejected : (n : ℕ) → Tied s progress (slot t g e undecided ∷ held) lines
+    pub rejected : (n : ℕ) → Tied s progress (slot t g e undecided ∷ held) lines → decide R e s progress ≡ record { verdict = reject; weighed = n }
         → Tied s progress held (note lines (vote reject t g e n)) × Owned R lines (voted reject t g e n)
-    rejected n h =
+    rejected n h v =
         let p = apart-at progress t g e undecided held (h .transactions) in (
           record {
             past = past-noting R t votedNo 0 (λ lines′ l. live-reject t g e undecided l (p .0) (p .1)) (h .past);
@@ -99,7 +110,7 @@ module _ {G S E B : Type 0} (R : Rule S E B) where
             few = h .few;
             fewHeld = omega (arith, h .fewHeld);
           },
-          oldest-owner h,
+          oldest-vote reject n h v,
         )
 
   pub oldest-append : (progress : List (Slot G E)) (t : ℕ) (g : G) (e : E) → oldestUndecided progress ≡ true → oldestUndecided (progress ++ (slot t g e undecided ∷ [])) ≡ true
@@ -118,7 +129,7 @@ module _ {G S E B : Type 0} (R : Rule S E B) where
       Goal : Decision → Verdict → ℕ → Type 0
       Goal d′ v n = Done lines (drainBy v n (slot t g e d′) s progress held (λ (progress′ : List (Slot G E)). drain R s progress′ held))
 
-      by : (v : Verdict) (n : ℕ) → decide R e s progress .verdict ≡ v → Tied s progress (slot t g e undecided ∷ held) lines
+      by : (v : Verdict) (n : ℕ) → decide R e s progress ≡ record { verdict = v; weighed = n } → Tied s progress (slot t g e undecided ∷ held) lines
           → ((progress′ : List (Slot G E)) (lines′ : List (Line G E)) → Tied s progress′ held lines′ → oldestUndecided progress′ ≡ true → Done lines′ (drain R s progress′ held))
           → Goal undecided v n
       by accept n v h′ rest =
@@ -126,36 +137,17 @@ module _ {G S E B : Type 0} (R : Rule S E B) where
           let r = rest (progress ++ (slot t g e undecided ∷ [])) (note lines (vote accept t g e n)) (k .0) (oldest-append progress t g e o) in
           (r .0, (k .1, r .1))
       by reject n v h′ rest =
-          let k = rejected s progress held t g e lines n h′ in
+          let k = rejected s progress held t g e lines n h′ v in
           let r = rest progress (note lines (vote reject t g e n)) (k .0) o in
           (r .0, (k .1, r .1))
-      by hold n v h′ rest = (record { tied = h′; oldest = o; stays = rw v }, tt)
+      by hold n v h′ rest = (record { tied = h′; oldest = o; stays = rw (ap (λ (w : Weighing). w .verdict) v) }, tt)
 
-      decided : undecided ≡ d → (v : Verdict) (n : ℕ) → decide R e s progress .verdict ≡ v → Tied s progress (slot t g e d ∷ held) lines
+      decided : undecided ≡ d → (v : Verdict) (n : ℕ) → decide R e s progress ≡ record { verdict = v; weighed = n } → Tied s progress (slot t g e d ∷ held) lines
           → ((progress′ : List (Slot G E)) (lines′ : List (Line G E)) → Tied s progress′ held lines′ → oldestUndecided progress′ ≡ true → Done lines′ (drain R s progress′ held))
           → Goal d v n
       decided same v n k h′ rest =
           subst (λ (d′ : Decision). Goal d′ v n) same
           (by v n k (subst (λ (d′ : Decision). Tied s progress (slot t g e d′ ∷ held) lines) (sym same) h′) rest)
-
-  -- The state so far is the run of the events applied, and one event more brings its effect.
-  live-applied : {lines : List (Line G E)} {progress held : List (Slot G E)} → Live lines progress held → appliedEvents lines ≡ []
-  live-applied (held-then w) = waited w
-    where
-      waited : {lines′ : List (Line G E)} {held′ : List (Slot G E)} → Wait lines′ held′ → appliedEvents lines′ ≡ []
-      waited no-more = refl
-      waited (gone w′) = waited w′
-      waited (waits w′) = waited w′
-  live-applied (no-then l) = live-applied l
-  live-applied (dropped-then l) = live-applied l
-  live-applied (going-then l) = live-applied l
-
-  run-then : (e : E) {s s′ : S} {lines : List (Line G E)} {progress held : List (Slot G E)}
-      → Past R s lines s′ progress held → run R (appliedEvents lines ++ (e ∷ [])) s ≡ R .effect e s′
-  run-then e (live-then l) = rw (live-applied l)
-  run-then e (no-past l) = run-then e l
-  run-then e (dropped-past l) = run-then e l
-  run-then e (applied-past q l) = run-then e l
 
   -- Settling: the oldest event, if committed, is applied, and the rest by induction; then the held requests are drained.
   pub settled : (progress : List (Slot G E)) (s : S) (held : List (Slot G E)) (lines : List (Line G E))
@@ -168,6 +160,7 @@ module _ {G S E B : Type 0} (R : Rule S E B) where
       let both : (some-of (named t) progress || some-of (named t) held) ≡ false = sym (some-append (named t) progress held) ∙ far in
       let p = or-left (some-of (named t) progress) (some-of (named t) held) both in
       let q = or-right (some-of (named t) progress) (some-of (named t) held) both in
+      let first = past-oldest R t g e committed (h .past) in
       let r =
       settled progress (R .effect e s) held (note lines (ending t g e (R .shown (R .effect e s))))
       (record {
@@ -180,7 +173,12 @@ module _ {G S E B : Type 0} (R : Rule S E B) where
       in (
         r .0,
         (
-          (past-owners R t (h .past) ∙ rw (eq-eqb t t refl, keep-none (named t) progress p, keep-none (named t) held q), ap (R .shown) (sym (run-then e (h .past)))),
+          (
+            turns-at t g e (ongoing committed) wasApplied 1 lines (first .0) (first .1) refl (first .2)
+                (past-owners R t (h .past) ∙ rw (eq-eqb t t refl, keep-none (named t) progress p, keep-none (named t) held q)),
+            first .3,
+            ap (R .shown) (sym (run-last R (appliedEvents lines) e (R .fresh) ∙ ap (R .effect e) (past-applied R (h .past)))),
+          ),
           r .1,
         ),
       )

@@ -9,7 +9,7 @@ use native.Mathlib.Omega.{arith}
 use native.Mathlib.Nat.{pow-suc, add-zero}
 use lib.Dec.{eqb}
 use lib.ListN.{length, length-map}
-use Rattle.rule.specs.Lists.{every, some-of, numbers}
+use Rattle.rule.specs.Lists.{every, some-of, keep, numbers}
 use Rattle.rule.specs.Rule.{Rule, Slot, slot, undecided, committed}
 use Rattle.rule.specs.Outcome.{undecidedOf, outcome, outcomes}
 use Rattle.rule.proofs.Lists.{length-numbers}
@@ -139,6 +139,15 @@ module _ {A : Type 0} (p : A → Bool) where
       go : (b : Bool) → cond b 1 0 + total (yes-of p) xs ≡ 0 → (total (yes-of p) xs ≡ 0 → some-of p xs ≡ false) → (b || some-of p xs) ≡ false
       go true h′ f = absurd (omega arith)
       go false h′ f = f (omega arith)
+
+  -- those kept are the yes
+  pub length-yes : (xs : List A) → length (keep p xs) ≡ total (yes-of p) xs
+  length-yes [] = refl
+  length-yes (x ∷ xs) = go (p x) (length-yes xs)
+    where
+      go : (b : Bool) → length (keep p xs) ≡ total (yes-of p) xs → length (cond b (x ∷ keep p xs) (keep p xs)) ≡ cond b 1 0 + total (yes-of p) xs
+      go true h = omega arith
+      go false h = omega arith
 
   -- each element is a yes or a no
   pub yes-no : (xs : List A) → total (yes-of p) xs + total (no-of p) xs ≡ length xs

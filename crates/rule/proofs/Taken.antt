@@ -2,7 +2,7 @@
 -- A request is put behind the held ones and, where it is the only one, decided as the oldest of them; a commit marks and settles; an abort takes out and settles.
 -- Assumes nothing.
 use Prim.Native.Nat.{ℕ, _+_, _<_}
-use mathlib.Core.Path.{_≡_, refl, sym, _∙_}
+use mathlib.Core.Path.{_≡_, refl, sym, _∙_, ap}
 use mathlib.Core.Logic.{_⊎_, inl, inr, ⊎-elim}
 use mathlib.Core.Bool.{Bool, true, false, cond, not, _||_, true≢false}
 use mathlib.Core.List.{List, [], _∷_, _++_, append-assoc}
@@ -13,13 +13,17 @@ use lib.ListN.{length, length-append, length-map}
 use borrow.Author.Tests.{leb-false, eq-eqb}
 use Rattle.rule.specs.Lists.{some-of}
 use Rattle.rule.specs.Rule.{Rule, undecided, committed, Slot, slot, Account, Message, request, commit, abort, Verdict, accept, reject, hold, Entry, noted, dropped}
-use Rattle.rule.specs.Weigh.{decide}
+use Rattle.rule.specs.Weigh.{Weighing, decide, decideBehind}
 use Rattle.rule.specs.Step.{named, markOne, mark, without, settle, asked, askedBy, committing, aborting, step}
 use Rattle.rule.specs.Call.{namedCommitted, refusal, taken}
 use Rattle.rule.specs.History.{waiting, ongoing, wasDropped, Line, line, owners, note, begun}
+use Rattle.rule.specs.Demand.{Voted}
 use Rattle.rule.proofs.Lists.{either, or-neither, keep-none, keep-append, some-append}
 use Rattle.rule.proofs.Apart.{length-keep, apart-snoc, apart-mark, apart-without, apart-left, apart-right, apart-other, only-one}
 use Rattle.rule.proofs.Safe.{safe-mark, safe-without}
+use Rattle.rule.proofs.Vote.{vote-is}
+use Rattle.rule.proofs.Turns.{turns-at, turns}
+use Rattle.rule.proofs.Tells.{past-progress, past-held, past-applied}
 use Rattle.rule.proofs.Ties.{live-commit, live-drop, live-hold, past-noting, past-append, past-owners}
 use Rattle.rule.proofs.Good.{Tied, Rest, Done, vote, accepted, rejected, oldest-append, settled}
 
@@ -71,6 +75,15 @@ module _ {G S E B : Type 0} (R : Rule S E B) where
         past-owners R t (behind held h q room .past)
         ∙ rw (keep-none (named t) progress fresh-there, keep-append (named t) held (slot t g e undecided ∷ []), keep-none (named t) held q, eq-eqb t t refl)
 
+    -- which is the vote on it behind those held before,
+    behind-vote : (held : List (Slot G E)) (n : ℕ) → Tied R s progress held lines → some-of (named t) held ≡ false → length held < R .bench
+        → decideBehind R held e s progress ≡ record { verdict = hold; weighed = n } → Voted R (lines ++ (line t g e waiting 0 ∷ [])) hold waiting t g e n
+    behind-vote held n h q room w =
+        let past = behind held h q room .past in (
+          turns-at t g e waiting waiting 0 (lines ++ (line t g e waiting 0 ∷ [])) lines [] refl refl (behind-owner held h q room),
+          rw (← past-held R (h .past), ← past-progress R past, past-applied R past) (vote-is R e s progress held hold n w),
+        )
+
     -- and tied as before when it is held
     behind-held : (held : List (Slot G E)) (n : ℕ) → Tied R s progress held lines → some-of (named t) held ≡ false → length held < R .bench
         → Tied R s progress (held ++ (slot t g e undecided ∷ [])) (note (lines ++ (line t g e waiting 0 ∷ [])) (vote R hold t g e n))
@@ -97,17 +110,17 @@ module _ {G S E B : Type 0} (R : Rule S E B) where
       first : Tied R s progress (slot t g e undecided ∷ []) (lines ++ (line t g e waiting 0 ∷ []))
       first = behind s progress t g e lines p [] (h .tied) q room
 
-      by : (v : Verdict) (n : ℕ) → decide R e s progress .verdict ≡ v
+      by : (v : Verdict) (n : ℕ) → decide R e s progress ≡ record { verdict = v; weighed = n }
           → Done R (lines ++ (line t g e waiting 0 ∷ [])) (record { account = askedBy v s progress [] (slot t g e undecided); entries = vote R v t g e n ∷ [] })
       by accept n v =
           let k = accepted R s progress [] t g e (lines ++ (line t g e waiting 0 ∷ [])) n first v in
           (record { tied = k .0; oldest = oldest-append R progress t g e (h .oldest); stays = refl }, (k .1, tt))
       by reject n v =
-          let k = rejected R s progress [] t g e (lines ++ (line t g e waiting 0 ∷ [])) n first in
+          let k = rejected R s progress [] t g e (lines ++ (line t g e waiting 0 ∷ [])) n first v in
           (record { tied = k .0; oldest = h .oldest; stays = refl }, (k .1, tt))
       by hold n v = (
-        record { tied = behind-held s progress t g e lines p [] n (h .tied) q room; oldest = h .oldest; stays = rw v },
-        (behind-owner s progress t g e lines p [] (h .tied) q room, tt),
+        record { tied = behind-held s progress t g e lines p [] n (h .tied) q room; oldest = h .oldest; stays = rw (ap (λ (w : Weighing). w .verdict) v) },
+        (behind-vote s progress t g e lines p [] n (h .tied) q room v, tt),
       )
   requested s progress (slot t′ g′ e′ d′ ∷ held) t g e lines h p q room = (
     record {
@@ -115,7 +128,7 @@ module _ {G S E B : Type 0} (R : Rule S E B) where
       oldest = h .oldest;
       stays = h .stays;
     },
-    (behind-owner s progress t g e lines p (slot t′ g′ e′ d′ ∷ held) (h .tied) q room, tt),
+    (behind-vote s progress t g e lines p (slot t′ g′ e′ d′ ∷ held) 0 (h .tied) q room refl, tt),
   )
 
   -- A commit.
@@ -135,8 +148,17 @@ module _ {G S E B : Type 0} (R : Rule S E B) where
         few = rw (length-map progress (markOne t)) (h .tied .few);
         fewHeld = h .tied .fewHeld;
       })
-      in
-      (r .0, ((one .0, one .1, past-owners R t (h .tied .past) ∙ rw (one .3, keep-none (named t) held q, d)), r .1))
+      in (
+        r .0,
+        (
+          (
+            one .0,
+            one .1,
+            turns t (one .0) (one .1) (ongoing undecided) (ongoing committed) 0 lines refl (past-owners R t (h .tied .past) ∙ rw (one .3, keep-none (named t) held q, d)),
+          ),
+          r .1,
+        ),
+      )
     where
       noting-of : ℕ → G → Entry G E B
       noting-of t′ g′ = noted t′ g′
@@ -166,7 +188,7 @@ module _ {G S E B : Type 0} (R : Rule S E B) where
       let d : one .2 ≡ undecided = one .4 c in
       let r = taken-out s progress held t (one .0) (one .1) lines (h .tied) c in
       rw (one .3, keep-none (named t) held q)
-      (r .0, (inl (past-owners R t (h .tied .past) ∙ rw (one .3, keep-none (named t) held q, d)), r .1))
+      (r .0, (inl (turns t (one .0) (one .1) (ongoing undecided) wasDropped 1 lines refl (past-owners R t (h .tied .past) ∙ rw (one .3, keep-none (named t) held q, d))), r .1))
   aborted-good s progress held t lines h (inr p) c =
       let one = only-one t held (apart-right progress held (h .tied .transactions)) p in
       let q : some-of (named t) progress ≡ false =
@@ -174,7 +196,7 @@ module _ {G S E B : Type 0} (R : Rule S E B) where
       in
       let r = taken-out s progress held t (one .0) (one .1) lines (h .tied) c in
       rw (one .3, keep-none (named t) progress q)
-      (r .0, (inr (past-owners R t (h .tied .past) ∙ rw (one .3, keep-none (named t) progress q)), r .1))
+      (r .0, (inr (turns t (one .0) (one .1) waiting wasDropped 1 lines refl (past-owners R t (h .tied .past) ∙ rw (one .3, keep-none (named t) progress q))), r .1))
 
   -- Any message that is not refused.
   pub step-good : (a : Account G S E) (m : Message G E) (lines : List (Line G E))

@@ -9,16 +9,15 @@ use mathlib.Core.Option.{none}
 use native.Mathlib.Omega.{arith}
 use lib.ListN.{length, length-map}
 use Rattle.rule.specs.Lists.{some-of, keep}
-use Rattle.rule.specs.Rule.{Rule, undecided, committed, Slot, slot, Account, Message, request, commit, abort, Verdict, accept, reject, hold, Entry, dropped, newAccount}
+use Rattle.rule.specs.Rule.{Rule, undecided, committed, Slot, slot, Account, Message, request, commit, abort, Verdict, accept, reject, hold, Entry, dropped}
 use Rattle.rule.specs.Weigh.{decide, decideBehind}
 use Rattle.rule.specs.Step.{named, markOne, mark, without, dropping, settledState, applications, unsettled, drainBy, drain, settle, asked, committing, aborting, step}
-use Rattle.rule.specs.Call.{namedCommitted, refusal, reached}
+use Rattle.rule.specs.Call.{namedCommitted, refusal}
 use Rattle.rule.specs.Order.{apart}
 use Rattle.rule.specs.Written.{OnlyApplied, OnlyDecided, Following, Shape}
 use Rattle.rule.proofs.Lists.{either, keep-none}
 use Rattle.rule.proofs.Apart.{length-keep, apart-left, apart-right, apart-other, only-one}
 use Rattle.rule.proofs.Taken.{free-abort}
-use Rattle.rule.proofs.Reached.{reached-rest}
 
 module _ {A : Type 0} (p : A → Bool) where
   -- those taken out and those left are all
@@ -112,8 +111,3 @@ module _ {G S E B : Type 0} (R : Rule S E B) where
       (settle R (a .state) (mark t (a .progress)) (a .held) .entries, refl, rw (← length-map (a .progress) (markOne t)) (settled-following (mark t (a .progress)) (a .held) (a .state)))
   step-shape a (abort t g) h free =
       aborted-shape a t g h (free-abort (some-of (named t) (a .progress)) (some-of (named t) (a .held)) (some-of (namedCommitted t) (a .progress)) free .0)
-
-  -- so of every call after any list of messages to a new account
-  pub reached-shape : (ms : List (Message G E)) (m : Message G E)
-      → refusal R (reached R (newAccount R G) ms) m ≡ none → Shape (reached R (newAccount R G) ms) m (step R (reached R (newAccount R G) ms) m .entries)
-  reached-shape ms m free = step-shape (reached R (newAccount R G) ms) m (reached-rest R ms .1 .tied .transactions) free

@@ -1,15 +1,26 @@
 -- Weighing is exact: what each verdict says of the outcomes by their numbers; and what the numbers say.
 -- Assumes nothing.
-use Prim.Native.Nat.{ℕ, zero, suc, _<_, _≤_, _^_}
+use Prim.Native.Nat.{ℕ, zero, suc, _+_, _*_, _<_, _≤_, _^_}
 use mathlib.Core.Path.{_≡_}
 use mathlib.Core.Logic.{_↔_}
 use mathlib.Core.Bool.{Bool, true, false, cond}
-use mathlib.Core.List.{List, [], _∷_}
+use mathlib.Core.List.{List, [], _∷_, _++_}
 use lib.Count.{ones}
-use lib.ListN.{length}
+use lib.ListN.{length, getD}
 use Rattle.rule.specs.Rule.{Rule, Slot, slot, undecided, committed, accept, reject, hold}
 use Rattle.rule.specs.Outcome.{undecidedOf, appliedIn, bit, outcome, outcomes}
-use Rattle.rule.specs.Weigh.{weigh, unweighed, decideBehind}
+use Rattle.rule.specs.Weigh.{weigh, decideBehind}
+
+-- the number of a choice among so many: its lowest bit is 1 exactly if the oldest is chosen, and what stands above it is the number of the choice among the others
+abbrev pub numberOf : ℕ → (ℕ → Bool) → ℕ
+numberOf zero chosen = 0
+numberOf (suc u) chosen = cond (chosen 0) 1 0 + 2 * numberOf u (λ (i : ℕ). chosen (suc i))
+
+-- numbers and choices are the same: "2 to the power u outcomes, numbered from 0", by the bits of the number
+pub record Choices (u : ℕ) : Type 0 where
+  pub below : (chosen : ℕ → Bool) → numberOf u chosen < 2 ^ u
+  pub chooses : (chosen : ℕ → Bool) (i : ℕ) → i < u → bit (numberOf u chosen) i ≡ chosen i
+  pub whole : (n : ℕ) → n < 2 ^ u → numberOf u (bit n) ≡ n
 
 module _ {G S E B : Type 0} (R : Rule S E B) where
   -- the state after the events in progress, where `chosen i` says whether the i-th oldest undecided event, counted from 0, is applied
@@ -29,6 +40,19 @@ module _ {G S E B : Type 0} (R : Rule S E B) where
     pub count : length (outcomes R xs s) ≡ 2 ^ undecidedOf xs
     -- "Bit i of an outcome's number, lowest first, is set exactly if the i-th oldest undecided event, counted from 0, is applied."
     pub bits : (n : ℕ) → outcome R xs n s ≡ chosenState xs (bit n) s
+    -- in the list they stand in the order of their numbers
+    pub listed : (n : ℕ) (other : S) → n < 2 ^ undecidedOf xs → getD (outcomes R xs s) n other ≡ outcome R xs n s
+    -- An undecided event, wherever it stands, is applied to the state of those before it if its place among the undecided ones is chosen, and else left out;
+    pub undecidedOne :
+        (before behind : List (Slot G E)) (t : ℕ) (g : G) (e : E) (chosen : ℕ → Bool)
+        → xs ≡ before ++ (slot t g e undecided ∷ behind)
+        → chosenState xs chosen s
+        ≡ chosenState behind (λ (i : ℕ). chosen (suc (undecidedOf before) + i)) (cond (chosen (undecidedOf before)) (R .effect e (chosenState before chosen s)) (chosenState before chosen s))
+    -- a committed one always is applied.
+    pub committedOne :
+        (before behind : List (Slot G E)) (t : ℕ) (g : G) (e : E) (chosen : ℕ → Bool)
+        → xs ≡ before ++ (slot t g e committed ∷ behind)
+        → chosenState xs chosen s ≡ chosenState behind (λ (i : ℕ). chosen (undecidedOf before + i)) (R .effect e (chosenState before chosen s))
     -- the count of ones is the number of undecided events applied
     pub applied : (n : ℕ) → n < 2 ^ undecidedOf xs → appliedIn xs n ≡ ones n
 
@@ -47,9 +71,9 @@ module _ {G S E B : Type 0} (R : Rule S E B) where
   -- how a request is decided, whatever is in progress and held
   pub record Decided (e : E) (s : S) (progress held : List (Slot G E)) : Type 0 where
     -- "held, with 0 outcomes weighed, if a request is already held on the account,
-    pub behind : (held ≡ [] → ⊥) → decideBehind R held e s progress ≡ unweighed
+    pub behind : (held ≡ [] → ⊥) → decideBehind R held e s progress ≡ record { verdict = hold; weighed = 0 }
     -- or 8 events are in progress";
-    pub full : held ≡ [] → R .room ≤ length progress → decideBehind R held e s progress ≡ unweighed
+    pub full : held ≡ [] → R .room ≤ length progress → decideBehind R held e s progress ≡ record { verdict = hold; weighed = 0 }
     -- "otherwise" as it is weighed, with "the number of outcomes weighed, which equals 2 to the power u";
     pub free : held ≡ [] → length progress < R .room → decideBehind R held e s progress ≡ record { verdict = weigh R e (outcomes R progress s); weighed = 2 ^ undecidedOf progress }
     -- where nothing is in progress nothing is held

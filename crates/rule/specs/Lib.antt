@@ -8,7 +8,11 @@ pub mod Run
 pub mod Order
 pub mod History
 pub mod Demand
+pub mod Readings
+pub mod Follows
 pub mod Exact
+pub mod Vote
+pub mod InOrder
 pub mod Written
 pub mod Refusals
 pub mod Says

@@ -1,48 +1,61 @@
--- "Given exactly if": each refusal of an account's messages, both ways (document 01, "Numbers given when a call is not taken").
+-- "Given exactly if": each refusal of an account's messages, both ways, said of the call's answer (document 01, "Numbers given when a call is not taken").
 -- Assumes nothing.
 use Prim.Native.Nat.{ℕ, _≤_}
 use mathlib.Core.Path.{_≡_}
 use mathlib.Core.Logic.{_↔_, _⊎_}
-use mathlib.Core.Bool.{true}
-use mathlib.Core.Option.{some}
+use mathlib.Core.List.{List, _∷_, _++_}
 use lib.ListN.{length}
-use Rattle.rule.specs.Lists.{some-of}
-use Rattle.rule.specs.Rule.{Rule, Account, request, commit, abort}
-use Rattle.rule.specs.Step.{named}
-use Rattle.rule.specs.Call.{namedCommitted, refusal}
+use Rattle.rule.specs.Rule.{Rule, Decision, committed, Slot, slot, Account, Message, request, commit, abort}
+use Rattle.rule.specs.Call.{refused, call}
+
+-- a slot of the transaction stands among these, with this decision or with any
+abbrev pub StandsAs : {G E : Type 0} → ℕ → Decision → List (Slot G E) → Type 0
+StandsAs {G} {E} t d xs = (before : List (Slot G E)) × (behind : List (Slot G E)) × (g : G) × (e : E) × (xs ≡ before ++ (slot t g e d ∷ behind))
+
+abbrev pub Stands : {G E : Type 0} → ℕ → List (Slot G E) → Type 0
+Stands t xs = (d : Decision) × StandsAs t d xs
 
 module _ {G S E : Type 0} (a : Account G S E) (t : ℕ) where
   -- the transaction is in progress, is held, is committed
   abbrev pub InProgress : Type 0
-  InProgress = some-of (named t) (a .progress) ≡ true
+  InProgress = Stands t (a .progress)
 
   abbrev pub OnHold : Type 0
-  OnHold = some-of (named t) (a .held) ≡ true
+  OnHold = Stands t (a .held)
 
   abbrev pub IsCommitted : Type 0
-  IsCommitted = some-of (namedCommitted t) (a .progress) ≡ true
+  IsCommitted = StandsAs t committed (a .progress)
+
+module _ {G S E B : Type 0} (R : Rule S E B) (a : Account G S E) where
+  -- the call answers the message with that number
+  abbrev pub Gives : Message G E → ℕ → Type 0
+  Gives m n = call R a m .answer ≡ refused n
+
+  -- "leaves the register .. unchanged": a refusal of any number
+  abbrev pub LeavesIt : Message G E → Type 0
+  LeavesIt m = (n : ℕ) → Gives m n → call R a m .account ≡ a
 
 module _ {G S E B : Type 0} (R : Rule S E B) (a : Account G S E) (t : ℕ) (g : G) where
   pub record RequestRefused (e : E) : Type 0 where
     -- 6: "request: its transaction is in progress or held on that account"
-    pub six : (refusal R a (request t g e) ≡ some 6) ↔ (InProgress a t ⊎ OnHold a t)
+    pub six : Gives R a (request t g e) 6 ↔ (InProgress a t ⊎ OnHold a t)
     -- 7: "request: 8 are held", after 6
-    pub seven : (refusal R a (request t g e) ≡ some 7) ↔ ((InProgress a t → ⊥) × (OnHold a t → ⊥) × (R .bench ≤ length (a .held)))
+    pub seven : Gives R a (request t g e) 7 ↔ ((InProgress a t → ⊥) × (OnHold a t → ⊥) × (R .bench ≤ length (a .held)))
     -- and no other number
-    pub only : (n : ℕ) → refusal R a (request t g e) ≡ some n → (n ≡ 6) ⊎ (n ≡ 7)
+    pub only : (n : ℕ) → Gives R a (request t g e) n → (n ≡ 6) ⊎ (n ≡ 7)
 
   pub record CommitRefused : Type 0 where
     -- 8: "transaction neither in progress nor held"
-    pub eight : (refusal R a (commit t g) ≡ some 8) ↔ ((InProgress a t → ⊥) × (OnHold a t → ⊥))
+    pub eight : Gives R a (commit t g) 8 ↔ ((InProgress a t → ⊥) × (OnHold a t → ⊥))
     -- 9: "commit of a held request"
-    pub nine : (refusal R a (commit t g) ≡ some 9) ↔ OnHold a t
+    pub nine : Gives R a (commit t g) 9 ↔ OnHold a t
     -- 10: "commit of a committed event"
-    pub ten : (refusal R a (commit t g) ≡ some 10) ↔ (InProgress a t × (OnHold a t → ⊥) × IsCommitted a t)
-    pub only : (n : ℕ) → refusal R a (commit t g) ≡ some n → (n ≡ 8) ⊎ ((n ≡ 9) ⊎ (n ≡ 10))
+    pub ten : Gives R a (commit t g) 10 ↔ (InProgress a t × (OnHold a t → ⊥) × IsCommitted a t)
+    pub only : (n : ℕ) → Gives R a (commit t g) n → (n ≡ 8) ⊎ ((n ≡ 9) ⊎ (n ≡ 10))
 
   pub record AbortRefused : Type 0 where
     -- 8: "transaction neither in progress nor held"
-    pub eight : (refusal R a (abort t g) ≡ some 8) ↔ ((InProgress a t → ⊥) × (OnHold a t → ⊥))
+    pub eight : Gives R a (abort t g) 8 ↔ ((InProgress a t → ⊥) × (OnHold a t → ⊥))
     -- 11: "abort of a committed event"
-    pub eleven : (refusal R a (abort t g) ≡ some 11) ↔ ((InProgress a t ⊎ OnHold a t) × IsCommitted a t)
-    pub only : (n : ℕ) → refusal R a (abort t g) ≡ some n → (n ≡ 8) ⊎ (n ≡ 11)
+    pub eleven : Gives R a (abort t g) 11 ↔ ((InProgress a t ⊎ OnHold a t) × IsCommitted a t)
+    pub only : (n : ℕ) → Gives R a (abort t g) n → (n ≡ 8) ⊎ (n ≡ 11)

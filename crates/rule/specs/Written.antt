@@ -35,15 +35,20 @@ module _ {G E B : Type 0} where
     pub few : length applications ≤ most-applied
     pub fewDecided : length decisions ≤ most-decided
 
-module _ {G S E B : Type 0} (a : Account G S E) where
-  -- the entries of a message that is taken
-  abbrev pub Shape : Message G E → List (Entry G E B) → Type 0
+module _ {G E B : Type 0} (progressing holding : ℕ) where
+  -- the entries of a message that is taken where so many events are in progress and so many requests held
+  abbrev pub Writes : Message G E → List (Entry G E B) → Type 0
   -- a request has its own vote and nothing else
-  Shape (request t g e) xs = (v : Verdict) × (n : ℕ) × (xs ≡ voted v t g e n ∷ [])
+  Writes (request t g e) xs = (v : Verdict) × (n : ℕ) × (xs ≡ voted v t g e n ∷ [])
   -- a commit is noted, with its own filing; every event in progress may be applied and every held request decided
-  Shape (commit t g) xs = (rest : List (Entry G E B)) × (xs ≡ noted t g ∷ rest) × Following (length (a .progress)) (length (a .held)) rest
+  Writes (commit t g) xs = (rest : List (Entry G E B)) × (xs ≡ noted t g ∷ rest) × Following progressing holding rest
   -- an abort drops one, with the filing of its request; of those in progress and held one is gone
-  Shape (abort t g) xs =
+  Writes (abort t g) xs =
       (g′ : G) × (e : E) × (rest : List (Entry G E B)) × (most-applied : ℕ) × (most-decided : ℕ) × (xs ≡ dropped t g′ e ∷ rest)
       × Following most-applied most-decided rest
-      × (most-applied ≤ length (a .progress)) × (most-decided ≤ length (a .held)) × (most-applied + most-decided < length (a .progress) + length (a .held))
+      × (most-applied ≤ progressing) × (most-decided ≤ holding) × (most-applied + most-decided < progressing + holding)
+
+module _ {G S E B : Type 0} (a : Account G S E) where
+  -- so on this account
+  abbrev pub Shape : Message G E → List (Entry G E B) → Type 0
+  Shape m xs = Writes (length (a .progress)) (length (a .held)) m xs

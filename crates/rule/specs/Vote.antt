@@ -1,0 +1,34 @@
+-- The vote on a request, plainly: its verdict and its number of outcomes, by the outcomes' numbers, with no word of how a request is weighed (document 01, "A request is: ..").
+-- Assumes nothing.
+use Prim.Native.Nat.{ℕ, _≤_, _<_, _^_}
+use mathlib.Core.Path.{_≡_}
+use mathlib.Core.Logic.{_↔_}
+use mathlib.Core.Bool.{true, false}
+use mathlib.Core.List.{List, []}
+use lib.ListN.{length}
+use Rattle.rule.specs.Rule.{Rule, Slot, Verdict, accept, reject, hold}
+use Rattle.rule.specs.Outcome.{undecidedOf, bit}
+use Rattle.rule.specs.Exact.{chosenState}
+
+module _ {G S E B : Type 0} (R : Rule S E B) where
+  -- the vote on an event behind these held requests, over these events in progress, from this applied state
+  pub record Vote (ahead progress : List (Slot G E)) (s : S) (e : E) (v : Verdict) (n : ℕ) : Type 0 where
+    -- "held, with 0 outcomes weighed, if a request is already held on the account, or 8 events are in progress;
+    pub behind : (ahead ≡ [] → ⊥) → (v ≡ hold) × (n ≡ 0)
+    pub full : R .room ≤ length progress → (v ≡ hold) × (n ≡ 0)
+    -- otherwise accepted if its guard holds in every outcome,
+    pub accepted :
+        ahead ≡ [] → length progress < R .room
+        → (v ≡ accept) ↔ ((k : ℕ) → k < 2 ^ undecidedOf progress → R .guard e (chosenState R progress (bit k) s) ≡ true)
+    -- rejected if in none,
+    pub rejected :
+        ahead ≡ [] → length progress < R .room
+        → (v ≡ reject) ↔ ((k : ℕ) → k < 2 ^ undecidedOf progress → R .guard e (chosenState R progress (bit k) s) ≡ false)
+    -- held if in some only.
+    pub held :
+        ahead ≡ [] → length progress < R .room
+        → (v ≡ hold)
+        ↔ (((k : ℕ) × (k < 2 ^ undecidedOf progress) × (R .guard e (chosenState R progress (bit k) s) ≡ true))
+        × ((k : ℕ) × (k < 2 ^ undecidedOf progress) × (R .guard e (chosenState R progress (bit k) s) ≡ false)))
+    -- The entry carries the number of outcomes weighed, which equals 2 to the power u."
+    pub weighed : ahead ≡ [] → length progress < R .room → n ≡ 2 ^ undecidedOf progress
