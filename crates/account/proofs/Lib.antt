@@ -17,3 +17,4 @@ pub mod Refusals
 pub mod Refused
 pub mod Kept
 pub mod Answers
+pub mod Table

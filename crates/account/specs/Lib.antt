@@ -2,6 +2,7 @@ pub mod Panel
 pub mod Places
 pub mod Weighing
 pub mod Order
+pub mod Table
 pub mod Clauses
 pub mod Ends
 pub mod Steps
