@@ -28,7 +28,7 @@ bit-suc n i =
     ap (λ (k : ℕ). eqb (k % 2) 1) (ap (λ (k : ℕ). n / 2 ^ k) (sym e) ∙ sym (shr-shr n 1 i))
 
 module _ {G S E B : Type 0} (R : Rule S E B) where
-  outcome-bits : (xs : List (Slot G E)) (n : ℕ) (s : S) → outcome R xs n s ≡ chosenState R xs (bit n) s
+  pub outcome-bits : (xs : List (Slot G E)) (n : ℕ) (s : S) → outcome R xs n s ≡ chosenState R xs (bit n) s
   outcome-bits [] n s = refl
   outcome-bits (slot t g e committed ∷ xs) n s = outcome-bits xs n (R .effect e s)
   outcome-bits (slot t g e undecided ∷ xs) n s =

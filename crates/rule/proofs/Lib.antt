@@ -9,6 +9,7 @@ pub mod Good
 pub mod Taken
 pub mod Reached
 pub mod Order
+pub mod InOrder
 pub mod Demand
 pub mod Filed
 pub mod Refusals

@@ -97,6 +97,37 @@ module _ {A : Type 0} (p : A → Bool) where
   pub every-some : (x : A) (xs : List A) → every p (x ∷ xs) ≡ true → some-of p (x ∷ xs) ≡ true
   every-some x xs h = rw (and-left (p x) (every p xs) h) refl
 
+  -- the test holds of some one exactly if the list parts at one of which it holds
+  pub some-parts : (xs : List A) → some-of p xs ≡ true → (before : List A) × (x : A) × (behind : List A) × (xs ≡ before ++ (x ∷ behind)) × (p x ≡ true)
+  some-parts [] h = absurd (false≢true h)
+  some-parts (x ∷ xs) h = go (or-cases (p x) (some-of p xs) h) (λ k. some-parts xs k)
+    where
+      go :
+          (p x ≡ true) ⊎ (some-of p xs ≡ true)
+          → (some-of p xs ≡ true → (before : List A) × (y : A) × (behind : List A) × (xs ≡ before ++ (y ∷ behind)) × (p y ≡ true))
+          → (before : List A) × (y : A) × (behind : List A) × (x ∷ xs ≡ before ++ (y ∷ behind)) × (p y ≡ true)
+      go (inl e) f = ([], x, xs, refl, e)
+      go (inr e) f = let r = f e in (x ∷ r .0, r .1, r .2, ap (λ (l : List A). x ∷ l) (r .3), r .4)
+
+  pub parts-some : (before : List A) (x : A) (behind : List A) → p x ≡ true → some-of p (before ++ (x ∷ behind)) ≡ true
+  parts-some [] x behind h = rw h
+  parts-some (y ∷ before) x behind h = go (p y) (parts-some before x behind h)
+    where
+      go : (b : Bool) → some-of p (before ++ (x ∷ behind)) ≡ true → (b || some-of p (before ++ (x ∷ behind))) ≡ true
+      go true k = refl
+      go false k = k
+
+  -- and of every one exactly if of each at which the list parts
+  pub every-parts : (before : List A) (x : A) (behind : List A) → every p (before ++ (x ∷ behind)) ≡ true → p x ≡ true
+  every-parts [] x behind h = and-left (p x) (every p behind) h
+  every-parts (y ∷ before) x behind h = every-parts before x behind (and-right (p y) (every p (before ++ (x ∷ behind))) h)
+
+  pub parts-every : (xs : List A) → ((before : List A) (x : A) (behind : List A) → xs ≡ before ++ (x ∷ behind) → p x ≡ true) → every p xs ≡ true
+  parts-every [] h = refl
+  parts-every (x ∷ xs) h =
+      and-both (p x) (every p xs) (h [] x xs refl)
+      (parts-every xs (λ before y behind q. h (x ∷ before) y behind (ap (λ (l : List A). x ∷ l) q)))
+
 pub length-numbers : (k m : ℕ) → length (numbers k m) ≡ m
 length-numbers k zero = refl
 length-numbers k (suc m) = ap suc (length-numbers (suc k) m)

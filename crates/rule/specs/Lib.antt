@@ -9,6 +9,7 @@ pub mod Order
 pub mod History
 pub mod Demand
 pub mod Exact
+pub mod InOrder
 pub mod Written
 pub mod Refusals
 pub mod Says

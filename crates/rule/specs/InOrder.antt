@@ -1,0 +1,51 @@
+-- "In order" neither weaker nor stronger than its sentence: the test is true exactly if each clause holds, said by places in the lists and by the outcomes' numbers
+-- (document 01, "An account is in order if .."; that blanks are blank is said where there are places).
+-- Assumes nothing.
+use Prim.Native.Nat.{ℕ, _≤_, _<_, _^_}
+use mathlib.Core.Path.{_≡_}
+use mathlib.Core.Logic.{_↔_, _⊎_}
+use mathlib.Core.Bool.{true, false}
+use mathlib.Core.List.{List, _∷_, _++_}
+use lib.ListN.{length}
+use Rattle.rule.specs.Rule.{Rule, Decision, undecided, Slot, slot, Account}
+use Rattle.rule.specs.Outcome.{undecidedOf, bit}
+use Rattle.rule.specs.Exact.{chosenState}
+use Rattle.rule.specs.Order.{order}
+
+module _ {G S E B : Type 0} (R : Rule S E B) where
+  pub record Ordered (a : Account G S E) : Type 0 where
+    -- "its counts .. are within limits",
+    pub few : length (a .progress) ≤ R .room
+    pub fewHeld : length (a .held) ≤ R .bench
+    -- its state is one of those in order,
+    pub state : R .fits (a .state) ≡ true
+    -- "its transaction numbers in progress and held all differ": those at any two places,
+    pub differ :
+        (before between behind : List (Slot G E)) (t t′ : ℕ) (g g′ : G) (e e′ : E) (d d′ : Decision)
+        → a .progress ++ a .held ≡ before ++ (slot t g e d ∷ (between ++ (slot t′ g′ e′ d′ ∷ behind)))
+        → t ≡ t′ → ⊥
+    -- a held request has no decision,
+    pub undecidedHeld :
+        (before behind : List (Slot G E)) (t : ℕ) (g : G) (e : E) (d : Decision)
+        → a .held ≡ before ++ (slot t g e d ∷ behind)
+        → d ≡ undecided
+    -- "each event in progress finds its guard true in every outcome of those before it",
+    pub guards :
+        (before behind : List (Slot G E)) (t : ℕ) (g : G) (e : E) (d : Decision)
+        → a .progress ≡ before ++ (slot t g e d ∷ behind)
+        → (n : ℕ) → n < 2 ^ undecidedOf before → R .guard e (chosenState R before (bit n) (a .state)) ≡ true
+    -- "its oldest event, if any, is undecided",
+    pub oldest :
+        (behind : List (Slot G E)) (t : ℕ) (g : G) (e : E) (d : Decision)
+        → a .progress ≡ slot t g e d ∷ behind
+        → d ≡ undecided
+    -- "and its oldest held request, if any, would stay held": no place is free, or its guard holds in some outcome and fails in some other
+    pub stays :
+        (behind : List (Slot G E)) (t : ℕ) (g : G) (e : E) (d : Decision)
+        → a .held ≡ slot t g e d ∷ behind
+        → (R .room ≤ length (a .progress))
+        ⊎ (((n : ℕ) × (n < 2 ^ undecidedOf (a .progress)) × (R .guard e (chosenState R (a .progress) (bit n) (a .state)) ≡ true))
+        × ((n : ℕ) × (n < 2 ^ undecidedOf (a .progress)) × (R .guard e (chosenState R (a .progress) (bit n) (a .state)) ≡ false)))
+
+  abbrev pub InOrderExactly : Account G S E → Type 0
+  InOrderExactly a = (order R a ≡ true) ↔ Ordered a
