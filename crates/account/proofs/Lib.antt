@@ -18,3 +18,4 @@ pub mod Refused
 pub mod Kept
 pub mod Answers
 pub mod Table
+pub mod Promises

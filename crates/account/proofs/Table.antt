@@ -4,23 +4,18 @@ use Prim.Native.Nat.{ℕ, _+_, _-_, _≤_}
 use mathlib.Core.Path.{_≡_, refl, sym, _∙_, ap}
 use mathlib.Core.Logic.{_↔_, ⊎-elim}
 use mathlib.Core.Bool.{Bool, true, false, cond, _&&_, false≢true, true≢false}
-use native.Mathlib.Omega.{arith}
 use lib.Dec.{leb, eqb}
 use borrow.Author.Tests.{leb-true, le-leb, eqb-true, eq-eqb}
-use Rattle.rule.specs.Outcome.{outcome, bit}
 use Rattle.rule.proofs.Lists.{either, and-left, and-right, and-both}
 use Rattle.rule.proofs.Exact.{numbered}
 use Rattle.rule.proofs.Safe.{Safe, guarded-safe}
-use Rattle.account.specs.declared.Event.{Event}
 use Rattle.account.specs.declared.Event.the-variants.{Open, Withdraw, Deposit, Close}
 use Rattle.account.specs.declared.Life.{Life}
 use Rattle.account.specs.declared.Life.the-variants.{New, Opened, Closed}
 use Rattle.account.specs.declared.State.{State}
-use Rattle.account.specs.declared.Account.{Account}
-use Rattle.account.specs.Panel.{limit, isNew, isOpened, guardOf, tableEffect, effectOf, stateFits, panel, tablePanel}
+use Rattle.account.specs.Panel.{limit, isNew, isOpened, guardOf, effectOf, panel, tablePanel}
 use Rattle.account.specs.Places.{listsOf}
-use Rattle.account.specs.Order.{orderOf}
-use Rattle.account.specs.Table.{Guards, Effects, TableEffects, Fields, TableHolds, OutcomesOfTheTable}
+use Rattle.account.specs.Table.{Guards, Effects, Fields, TableHolds, OutcomesOfTheTable}
 use Rattle.account.proofs.Panel.{effect-table, outcome-table}
 use Rattle.account.proofs.Guarded.{order-guarded}
 

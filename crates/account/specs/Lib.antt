@@ -6,6 +6,8 @@ pub mod Table
 pub mod Clauses
 pub mod Ends
 pub mod Steps
+pub mod Tests
+pub mod Promises
 pub mod Reached
 pub mod Rows
 pub mod Taken
