@@ -19,3 +19,4 @@ pub mod Kept
 pub mod Answers
 pub mod Table
 pub mod Promises
+pub mod InOrder

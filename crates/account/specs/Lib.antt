@@ -8,6 +8,7 @@ pub mod Ends
 pub mod Steps
 pub mod Tests
 pub mod Promises
+pub mod InOrder
 pub mod Reached
 pub mod Rows
 pub mod Taken
