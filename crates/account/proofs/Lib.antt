@@ -1,5 +1,6 @@
 pub mod Panel
 pub mod Cases
+pub mod OrderCases
 pub mod Guards
 pub mod Slices
 pub mod Ends
@@ -20,3 +21,4 @@ pub mod Answers
 pub mod Table
 pub mod Promises
 pub mod InOrder
+pub mod Forms

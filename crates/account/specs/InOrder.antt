@@ -34,7 +34,7 @@ module _ (a : Account) where
   abbrev pub unusedHeld : List Slot
   unusedHeld = drop (a .holding) (a .held)
 
--- the state after these events, applied as the bits of the number say; it is an outcome's if the number is below 2 to the power u
+-- the state after these events, applied as the bits of the number say; an outcome has a number below `many`
 abbrev pub after : State → List Slot → ℕ → State
 after s xs n = chosenState panel (map slotOf xs) (bit n) s
 
@@ -46,31 +46,31 @@ abbrev pub GuardSomewhere : State → List Slot → Event → Bool → Type 0
 GuardSomewhere s xs e b = (n : ℕ) × (n < many xs) × (panel .guard e (after s xs n) ≡ b)
 
 pub record InOrder (a : Account) : Type 0 where
-  -- "its counts
+  -- the counts
   pub progressing : a .progressing ≤ 8
   pub holding : a .holding ≤ 8
-  -- and balance are within limits",
+  -- and the balance within their limits,
   pub balance : a .state .balance ≤ 1_000_000
-  -- "its transaction numbers in progress and held all differ",
+  -- no transaction at two used places, in progress or held,
   pub differ :
       (before between behind : List Slot) (x y : Slot)
       → events a ++ requests a ≡ before ++ (x ∷ (between ++ (y ∷ behind)))
       → x .transaction ≡ y .transaction → ⊥
-  -- "blanks are blank",
+  -- nothing left in an unused place,
   pub blanks : (before behind : List Slot) (x : Slot) → unused a ≡ before ++ (x ∷ behind) → x ≡ record { transaction = 0; second = 0; event = Open 0; decision = Undecided }
   pub blanksHeld : (before behind : List Slot) (x : Slot) → unusedHeld a ≡ before ++ (x ∷ behind) → x ≡ record { transaction = 0; second = 0; event = Open 0; decision = Undecided }
-  -- "a new or closed account has balance 0",
+  -- no balance unless the account is opened,
   pub empty : (a .state .life ≡ Opened → ⊥) → a .state .balance ≡ 0
-  -- "each event in progress finds its guard true in every outcome of those before it",
+  -- the guard of an event in progress true, whatever becomes of the older ones,
   pub guards :
       (before behind : List Slot) (x : Slot)
       → events a ≡ before ++ (x ∷ behind)
       → (n : ℕ) → n < many before → panel .guard (x .event) (after (a .state) before n) ≡ true
-  -- "its oldest event, if any, is undecided",
+  -- the oldest event undecided,
   pub oldest : (behind : List Slot) (x : Slot) → events a ≡ x ∷ behind → x .decision ≡ Undecided
-  -- a held request has no decision,
+  -- no decision on a held request,
   pub undecidedHeld : (before behind : List Slot) (x : Slot) → requests a ≡ before ++ (x ∷ behind) → x .decision ≡ Undecided
-  -- "and its oldest held request, if any, would stay held": 8 events are in progress, or its guard is true in some outcome and false in some other
+  -- and the oldest held request to stay held: 8 events are in progress, or its guard is true in some outcome and false in some other
   pub stays :
       (behind : List Slot) (x : Slot)
       → requests a ≡ x ∷ behind

@@ -9,8 +9,10 @@ pub mod Steps
 pub mod Tests
 pub mod Promises
 pub mod InOrder
+pub mod Forms
 pub mod Reached
 pub mod Rows
 pub mod Taken
 pub mod Cases
+pub mod OrderCases
 pub mod Answers

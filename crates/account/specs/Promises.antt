@@ -50,7 +50,7 @@ stands t places count = some-of (λ (x : Slot). eqb t (x .transaction)) (take co
 abbrev pub standsCommitted : ℕ → List Slot → ℕ → Bool
 standsCommitted t places count = some-of (λ (x : Slot). eqb t (x .transaction) && isCommitted (x .decision)) (take count places)
 
--- a step: 5, then 6 before 7, or one of 8 to 11
+-- a step: 5; of a request then 6 and 7, of a commit 8 to 10, of an abort 8 and 11
 module _ (a : Account) where
   abbrev pub inProgress : ℕ → Bool
   inProgress t = stands t (a .progress) (a .progressing)
