@@ -1,4 +1,4 @@
--- Cases 1 to 8: antt computes the whole table.
+-- The cases: antt computes the whole table.
 -- Assumes nothing.
 use mathlib.Core.Path.{refl}
 use Rattle.rule.specs.Outcome.{outcomes}

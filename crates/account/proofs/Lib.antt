@@ -1,5 +1,6 @@
 pub mod Panel
 pub mod Cases
+pub mod OrderCases
 pub mod Guards
 pub mod Slices
 pub mod Ends
@@ -17,3 +18,7 @@ pub mod Refusals
 pub mod Refused
 pub mod Kept
 pub mod Answers
+pub mod Table
+pub mod Promises
+pub mod InOrder
+pub mod Forms

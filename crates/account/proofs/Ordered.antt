@@ -31,11 +31,11 @@ open-zero (Withdraw a) h = absurd (false≢true h)
 open-zero (Deposit a) h = absurd (false≢true h)
 open-zero Close h = absurd (false≢true h)
 
-no-decision : (d : Decision) → isUndecided d ≡ true → d ≡ Undecided
+pub no-decision : (d : Decision) → isUndecided d ≡ true → d ≡ Undecided
 no-decision Undecided h = refl
 no-decision Committed h = absurd (false≢true h)
 
-blank-place : (x : Slot) → isBlank x ≡ true → x ≡ blank
+pub blank-place : (x : Slot) → isBlank x ≡ true → x ≡ blank
 blank-place x h =
     let t = eqb (x .transaction) 0 in
     let g = eqb (x .second) 0 in

@@ -25,7 +25,7 @@ pub slot-place : (x : RuleSlot) → slotOf (placeOf x) ≡ x
 slot-place (rule.slot t g e rule.undecided) = refl
 slot-place (rule.slot t g e rule.committed) = refl
 
-decision-back : (d : Decision) → decisionIn (decisionOf d) ≡ d
+pub decision-back : (d : Decision) → decisionIn (decisionOf d) ≡ d
 decision-back Undecided = refl
 decision-back Committed = refl
 
@@ -33,7 +33,7 @@ pub place-slot : (x : Slot) → placeOf (slotOf x) ≡ x
 place-slot x =
     ap (λ (d : Decision). record { transaction = x .transaction; second = x .second; event = x .event; decision = d }) (decision-back (x .decision))
 
-slots-places : (xs : List RuleSlot) → map slotOf (map placeOf xs) ≡ xs
+pub slots-places : (xs : List RuleSlot) → map slotOf (map placeOf xs) ≡ xs
 slots-places [] = refl
 slots-places (x ∷ xs) = rw (slot-place x, slots-places xs)
 

@@ -25,7 +25,7 @@ pub data Because (a : Account) (m : rule.Message ℕ Event) (n : ℕ) : Type 0 w
 
 module _ (a : Account) (m : rule.Message ℕ Event) where
   -- the rule's call by its refusal
-  abbrev by : Option ℕ → Called
+  abbrev pub by : Option ℕ → Called
   by o =
       calledBy a (rule-call.callBy o (listsOf a) (rule-step.step panel (listsOf a) m) .account) (rule-call.callBy o (listsOf a) (rule-step.step panel (listsOf a) m) .answer)
 

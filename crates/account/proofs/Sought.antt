@@ -20,14 +20,14 @@ use Rattle.account.specs.declared.places.Found.{Found}
 use Rattle.account.specs.declared.places.Found.the-variants.{At, Nothing}
 use Rattle.account.specs.Places.{RuleSlot, decisionIn, slotOf, placeOf, used, listsOf}
 use Rattle.account.specs.Order.{isUndecided}
-use Rattle.account.specs.Rows.{foundIn, isFound, isCommittedAt, firstOf, placeAt}
+use Rattle.account.specs.Rows.{foundIn, isFound, isCommittedAt, foundOr, placeAt}
 use Rattle.account.proofs.Padded.{slot-place}
 
 found-by : (b : Bool) (x : Slot) (f : Found) → isFound (cond b (At x) f) ≡ (b || isFound f)
 found-by true x f = refl
 found-by false x f = refl
 
-first-found : (f g : Found) → isFound (firstOf f g) ≡ (isFound f || isFound g)
+first-found : (f g : Found) → isFound (foundOr f g) ≡ (isFound f || isFound g)
 first-found (At x) g = refl
 first-found Nothing g = refl
 
@@ -45,11 +45,11 @@ module _ (t : ℕ) where
   found-some [] = refl
   found-some (x ∷ xs) = found-by (named t x) (placeOf x) (foundIn t xs) ∙ ap (λ (b : Bool). named t x || b) (found-some xs)
 
-  first-append : (b : Bool) (x : Slot) (f g h : Found) → h ≡ firstOf f g → cond b (At x) h ≡ firstOf (cond b (At x) f) g
+  first-append : (b : Bool) (x : Slot) (f g h : Found) → h ≡ foundOr f g → cond b (At x) h ≡ foundOr (cond b (At x) f) g
   first-append true x f g h e = refl
   first-append false x f g h e = e
 
-  found-append : (xs ys : List RuleSlot) → foundIn t (xs ++ ys) ≡ firstOf (foundIn t xs) (foundIn t ys)
+  found-append : (xs ys : List RuleSlot) → foundIn t (xs ++ ys) ≡ foundOr (foundIn t xs) (foundIn t ys)
   found-append [] ys = refl
   found-append (x ∷ xs) ys = first-append (named t x) (placeOf x) (foundIn t xs) (foundIn t ys) (foundIn t (xs ++ ys)) (found-append xs ys)
 
@@ -91,9 +91,9 @@ module _ (t : ℕ) where
 pub record Looked (a : Account) (t : ℕ) (event request : Found) : Type 0 where
   pub inProgress : isFound event ≡ some-of (named t) (listsOf a .progress)
   pub onHold : isFound request ≡ some-of (named t) (listsOf a .held)
-  pub either : isFound (firstOf event request) ≡ (some-of (named t) (listsOf a .progress) || some-of (named t) (listsOf a .held))
+  pub either : isFound (foundOr event request) ≡ (some-of (named t) (listsOf a .progress) || some-of (named t) (listsOf a .held))
   pub committed : isCommittedAt event ≡ some-of (namedCommitted t) (listsOf a .progress)
-  pub kept : slotsAt (firstOf event request) ≡ keep (named t) (listsOf a .progress) ++ keep (named t) (listsOf a .held)
+  pub kept : slotsAt (foundOr event request) ≡ keep (named t) (listsOf a .progress) ++ keep (named t) (listsOf a .held)
 
 pub looked : (a : Account) (t : ℕ) (event request : Found) → apart (listsOf a .progress ++ listsOf a .held) ≡ true
     → event ≡ foundIn t (used (a .progress) (a .progressing)) → request ≡ foundIn t (used (a .held) (a .holding)) → Looked a t event request
@@ -101,7 +101,7 @@ unfolding listsOf
 looked a t event request ok f g =
     let ps = used (a .progress) (a .progressing) in
     let hs = used (a .held) (a .holding) in
-    let first : firstOf event request ≡ foundIn t (ps ++ hs) = ap₂ firstOf f g ∙ sym (found-append t ps hs) in
+    let first : foundOr event request ≡ foundIn t (ps ++ hs) = ap₂ foundOr f g ∙ sym (found-append t ps hs) in
     let inProgress : isFound event ≡ some-of (named t) ps = ap isFound f ∙ found-some t ps in
     let onHold : isFound request ≡ some-of (named t) hs = ap isFound g ∙ found-some t hs in
     record {

@@ -1,12 +1,13 @@
--- Cases 1 to 8 of document 01, "On each side of the line": one table, one statement.
+-- Cases 1 to 9 of document 01, "On each side of the line", its look-alike on weighing, and rows for what no case has: one table, one statement.
 -- Assumes nothing.
-use Prim.Native.Nat.{ℕ, _^_}
+use Prim.Native.Nat.{ℕ, suc, _^_}
 use mathlib.Core.Path.{_≡_}
 use mathlib.Core.List.{List, [], _∷_, _++_, map}
+use lib.ListN.{replicate}
 use Rattle.rule.specs.Lists.{numbers}
 use Rattle.rule.specs.Rule.{Message, request, commit, abort, Verdict, accept, reject, hold, Entry, voted, noted, applied, dropped, newAccount}
 use Rattle.rule.specs.Outcome.{undecidedOf, appliedIn, outcomes}
-use Rattle.rule.specs.Call.{written, call, reached}
+use Rattle.rule.specs.Call.{Answer, refused, taken, call, reached}
 use Rattle.account.specs.declared.Event.{Event}
 use Rattle.account.specs.declared.Event.the-variants.{Open, Withdraw, Deposit, Close}
 use Rattle.account.specs.declared.State.{State}
@@ -19,13 +20,14 @@ pub data Question : Type 0 where
   outlook : Question
   sends : Message ℕ Event → Question
 
--- what is found: a vote with the outcomes weighed; the balances of the outcomes with the numbers applied; entries
+-- what is found: a vote with the outcomes weighed; the balances of the outcomes with the numbers applied; entries; the number of a refusal
 pub data Finding : Type 0 where
   vote : Verdict → ℕ → Finding
   outcomesAre : List ℕ → List ℕ → Finding
   writes : List (Entry ℕ Event ℕ) → Finding
+  refuses : ℕ → Finding
 
--- a row: the messages sent to a new account before, the question, and what document 01 says
+-- a row: the messages sent to a new account before, the question, and what document 01 says of it
 pub record Row : Type 0 where
   pub before : List (Message ℕ Event)
   pub question : Question
@@ -39,38 +41,70 @@ voteIn (noted t g ∷ xs) = writes []
 voteIn (applied t g e b ∷ xs) = writes []
 voteIn (dropped t g e ∷ xs) = writes []
 
--- what an account answers; a request is sent under transaction 9, and everything at second 100
+-- the entries of an answer, as `told` has them, or its refusal
+abbrev pub findingIn : (List (Entry ℕ Event ℕ) → Finding) → Answer ℕ Event ℕ → Finding
+findingIn told (refused n) = refuses n
+findingIn told (taken xs) = told xs
+
+-- what an account answers; a request is sent under transaction 99, and everything at second 100
 abbrev pub answers : RuleAccount → Question → Finding
-answers a (asks e) = voteIn (written (call panel a (request 9 100 e) .answer))
+answers a (asks e) = findingIn voteIn (call panel a (request 99 100 e) .answer)
 answers a outlook =
     outcomesAre (map (λ (s : State). s .balance) (outcomes panel (a .progress) (a .state)))
     (map (appliedIn (a .progress)) (numbers 0 (2 ^ undecidedOf (a .progress))))
-answers a (sends m) = writes (written (call panel a m .answer))
+answers a (sends m) = findingIn writes (call panel a m .answer)
 
 abbrev pub found : Row → Finding
 found row = answers (reached panel (newAccount panel ℕ) (row .before)) (row .question)
 
--- an account of that balance with nothing in progress; an event more in progress
-abbrev pub opened : ℕ → List (Message ℕ Event)
-opened a = request 1 100 (Open a) ∷ commit 1 100 ∷ []
-
 abbrev pub row : List (Message ℕ Event) → Question → Finding → Row
 row before question said = record { before = before; question = question; said = said }
 
+-- requests of these events, under transactions from this one on
+abbrev pub requests : ℕ → List Event → List (Message ℕ Event)
+requests t [] = []
+requests t (e ∷ es) = request t 100 e ∷ requests (suc t) es
+
+-- an account of that balance with nothing in progress,
+abbrev pub opened : ℕ → List (Message ℕ Event)
+opened a = request 1 100 (Open a) ∷ commit 1 100 ∷ []
+
+-- and with these requests sent since, under transactions from 2 on
+abbrev pub openedWith : ℕ → List Event → List (Message ℕ Event)
+openedWith a es = opened a ++ requests 2 es
+
 abbrev pub case3 : List (Message ℕ Event)
-case3 = opened 100 ++ (request 2 100 (Withdraw 60) ∷ [])
+case3 = openedWith 100 (Withdraw 60 ∷ [])
 
 abbrev pub case5 : List (Message ℕ Event)
-case5 = opened 100 ++ (request 2 100 (Withdraw 60) ∷ request 3 100 (Withdraw 40) ∷ [])
+case5 = openedWith 100 (Withdraw 60 ∷ Withdraw 40 ∷ [])
 
 abbrev pub case6 : List (Message ℕ Event)
 case6 = case5 ++ (commit 3 100 ∷ [])
 
 abbrev pub case7 : List (Message ℕ Event)
-case7 = request 1 100 (Open 10) ∷ []
+case7 = requests 1 (Open 10 ∷ [])
 
 abbrev pub case8 : List (Message ℕ Event)
-case8 = opened 100 ++ (request 2 100 Close ∷ [])
+case8 = openedWith 100 (Close ∷ [])
+
+abbrev pub case9 : List (Message ℕ Event)
+case9 = openedWith 100 (replicate 7 (Withdraw 1))
+
+-- case 9 with the eighth in progress, and then with that many requests held
+abbrev pub case9Full : ℕ → List (Message ℕ Event)
+case9Full held = case9 ++ requests 9 (Deposit 1 ∷ replicate held (Withdraw 1))
+
+-- the program that looks right weighs two outcomes of these four
+abbrev pub lookAlike : List (Message ℕ Event)
+lookAlike = openedWith 100 (Deposit 50 ∷ Withdraw 50 ∷ [])
+
+-- the second of two withdrawals is held, under transaction 3
+abbrev pub waiting : List (Message ℕ Event)
+waiting = openedWith 100 (Withdraw 60 ∷ Withdraw 60 ∷ [])
+
+abbrev pub closed : List (Message ℕ Event)
+closed = case8 ++ (commit 2 100 ∷ [])
 
 unfoldable pub table : List Row
 table =
@@ -107,8 +141,44 @@ table =
     -- 8. Balance 100, Close undecided
     ∷ row case8 (asks (Withdraw 101)) (vote reject 2)
     ∷ row case8 (asks (Deposit 1)) (vote hold 2)
+    -- 9. Seven Withdraw 1 undecided on 100
+    ∷ row case9 (asks (Deposit 1)) (vote accept 128)
+    ∷ row (case9Full 0) (asks (Withdraw 1)) (vote hold 0)
+    ∷ row (case9Full 7) (asks (Withdraw 1)) (vote hold 0)
+    ∷ row (case9Full 8) (asks (Withdraw 1)) (refuses 7)
+    -- Deposit 50 and Withdraw 50 undecided on 100
+    ∷ row lookAlike outlook (outcomesAre (100 ∷ 150 ∷ 50 ∷ 100 ∷ []) (0 ∷ 1 ∷ 1 ∷ 2 ∷ []))
+    ∷ row lookAlike (asks (Withdraw 80)) (vote hold 4)
+    -- the other events of the table on a new account and on an opened one
+    ∷ row [] (asks (Withdraw 1)) (vote reject 1)
+    ∷ row [] (asks Close) (vote reject 1)
+    ∷ row (opened 100) (asks (Open 1)) (vote reject 1)
+    ∷ row (opened 100) (asks (Deposit 0)) (vote reject 1)
+    ∷ row (opened 100) (asks (Deposit 1)) (vote accept 1)
+    ∷ row (opened 100) (asks Close) (vote accept 1)
+    ∷ row (openedWith 100 (Deposit 50 ∷ [])) (sends (commit 2 100)) (writes (noted 2 100 ∷ applied 2 100 (Deposit 50) 150 ∷ []))
+    ∷ row case8 (sends (commit 2 100)) (writes (noted 2 100 ∷ applied 2 100 Close 0 ∷ []))
+    -- every event on a closed account
+    ∷ row closed outlook (outcomesAre (0 ∷ []) (0 ∷ []))
+    ∷ row closed (asks (Open 1)) (vote reject 1)
+    ∷ row closed (asks (Withdraw 1)) (vote reject 1)
+    ∷ row closed (asks (Deposit 1)) (vote reject 1)
+    ∷ row closed (asks Close) (vote reject 1)
+    -- a request behind one that is held; what becomes of the held one
+    ∷ row waiting (asks (Deposit 1)) (vote hold 0)
+    ∷ row waiting (sends (abort 2 100)) (writes (dropped 2 100 (Withdraw 60) ∷ voted accept 3 100 (Withdraw 60) 1 ∷ []))
+    ∷ row waiting (sends (commit 2 100)) (writes (noted 2 100 ∷ applied 2 100 (Withdraw 60) 40 ∷ voted reject 3 100 (Withdraw 60) 1 ∷ []))
+    ∷ row waiting (sends (abort 3 100)) (writes (dropped 3 100 (Withdraw 60) ∷ []))
+    -- refusals 6 and 8 to 11
+    ∷ row waiting (sends (request 2 100 Close)) (refuses 6)
+    ∷ row waiting (sends (request 3 100 Close)) (refuses 6)
+    ∷ row waiting (sends (commit 4 100)) (refuses 8)
+    ∷ row waiting (sends (abort 4 100)) (refuses 8)
+    ∷ row waiting (sends (commit 3 100)) (refuses 9)
+    ∷ row case6 (sends (commit 3 100)) (refuses 10)
+    ∷ row case6 (sends (abort 3 100)) (refuses 11)
     ∷ []
 
--- what is found is what document 01 says, row by row
+-- what is found is what is said, row by row
 abbrev pub CasesHold : Type 0
 CasesHold = map found table ≡ map (λ (r : Row). r .said) table

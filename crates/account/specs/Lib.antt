@@ -2,11 +2,17 @@ pub mod Panel
 pub mod Places
 pub mod Weighing
 pub mod Order
+pub mod Table
 pub mod Clauses
 pub mod Ends
 pub mod Steps
+pub mod Tests
+pub mod Promises
+pub mod InOrder
+pub mod Forms
 pub mod Reached
 pub mod Rows
 pub mod Taken
 pub mod Cases
+pub mod OrderCases
 pub mod Answers

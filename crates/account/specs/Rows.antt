@@ -56,9 +56,9 @@ isCommittedAt (At x) = not (isUndecided (x .decision))
 isCommittedAt Nothing = false
 
 -- what was found first, if anything was
-abbrev pub firstOf : Found → Found → Found
-firstOf (At x) other = At x
-firstOf Nothing other = other
+abbrev pub foundOr : Found → Found → Found
+foundOr (At x) other = At x
+foundOr Nothing other = other
 
 -- the place that was found
 abbrev pub placeAt : Found → Slot

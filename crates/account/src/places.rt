@@ -10,7 +10,7 @@ ghost use Rattle.rule.specs.Step.{mark, markOne, without};
 ghost use Rattle.rule.specs.Order.{oldestUndecided};
 ghost use Rattle.account.specs.Panel.{rowPlaces};
 ghost use Rattle.account.specs.Places.{slotOf};
-ghost use Rattle.account.specs.Rows.{listOf, listFrom, foundIn, isFound, isCommittedAt, firstOf, placeAt, Longer, Made};
+ghost use Rattle.account.specs.Rows.{listOf, listFrom, foundIn, isFound, isCommittedAt, foundOr, placeAt, Longer, Made};
 
 // Places in progress, or held: the first `count` are used, in arrival order.
 pub(crate) struct Row {
@@ -162,7 +162,7 @@ impl Found {
 
     // What was found here, else what was found there.
     pub(crate) fn or(self, other: Found) -> Found
-        ensures { λ r. ⌜ r ≡ firstOf self other ⌝ }
+        ensures { λ r. ⌜ r ≡ foundOr self other ⌝ }
     {
         match self {
             Found::At(slot) => Found::At(slot),

@@ -1,0 +1,109 @@
+-- An account in order, neither weaker nor stronger than its sentence (document 01, "An account is in order if .."): the test is true exactly if each clause holds,
+-- said of the account's own places, in plain numbers and by the outcomes' numbers; and what breaks one clause, whatever the others say, is not in order.
+-- Assumes nothing.
+use Prim.Native.Nat.{ℕ, _≤_, _<_, _^_}
+use mathlib.Core.Path.{_≡_}
+use mathlib.Core.Logic.{_↔_, _⊎_}
+use mathlib.Core.Bool.{Bool, true, false}
+use mathlib.Core.List.{List, _∷_, _++_, map}
+use lib.ListN.{length, take, drop}
+use Rattle.rule.specs.Outcome.{undecidedOf, bit}
+use Rattle.rule.specs.Exact.{chosenState}
+use Rattle.account.specs.declared.Event.{Event}
+use Rattle.account.specs.declared.Event.the-variants.{Open}
+use Rattle.account.specs.declared.Life.the-variants.{Opened}
+use Rattle.account.specs.declared.Decision.the-variants.{Undecided, Committed}
+use Rattle.account.specs.declared.State.{State}
+use Rattle.account.specs.declared.Slot.{Slot}
+use Rattle.account.specs.declared.Account.{Account}
+use Rattle.account.specs.Panel.{panel}
+use Rattle.account.specs.Places.{slotOf}
+use Rattle.account.specs.Order.{orderOf}
+
+-- the used places, in arrival order, and the unused ones
+module _ (a : Account) where
+  abbrev pub events : List Slot
+  events = take (a .progressing) (a .progress)
+
+  abbrev pub requests : List Slot
+  requests = take (a .holding) (a .held)
+
+  abbrev pub unused : List Slot
+  unused = drop (a .progressing) (a .progress)
+
+  abbrev pub unusedHeld : List Slot
+  unusedHeld = drop (a .holding) (a .held)
+
+-- the state after these events, applied as the bits of the number say; an outcome has a number below `many`
+abbrev pub after : State → List Slot → ℕ → State
+after s xs n = chosenState panel (map slotOf xs) (bit n) s
+
+abbrev pub many : List Slot → ℕ
+many xs = 2 ^ undecidedOf (map slotOf xs)
+
+-- in some outcome of these events the guard is so
+abbrev pub GuardSomewhere : State → List Slot → Event → Bool → Type 0
+GuardSomewhere s xs e b = (n : ℕ) × (n < many xs) × (panel .guard e (after s xs n) ≡ b)
+
+pub record InOrder (a : Account) : Type 0 where
+  -- the counts
+  pub progressing : a .progressing ≤ 8
+  pub holding : a .holding ≤ 8
+  -- and the balance within their limits,
+  pub balance : a .state .balance ≤ 1_000_000
+  -- no transaction at two used places, in progress or held,
+  pub differ :
+      (before between behind : List Slot) (x y : Slot)
+      → events a ++ requests a ≡ before ++ (x ∷ (between ++ (y ∷ behind)))
+      → x .transaction ≡ y .transaction → ⊥
+  -- nothing left in an unused place,
+  pub blanks : (before behind : List Slot) (x : Slot) → unused a ≡ before ++ (x ∷ behind) → x ≡ record { transaction = 0; second = 0; event = Open 0; decision = Undecided }
+  pub blanksHeld : (before behind : List Slot) (x : Slot) → unusedHeld a ≡ before ++ (x ∷ behind) → x ≡ record { transaction = 0; second = 0; event = Open 0; decision = Undecided }
+  -- no balance unless the account is opened,
+  pub empty : (a .state .life ≡ Opened → ⊥) → a .state .balance ≡ 0
+  -- the guard of an event in progress true, whatever becomes of the older ones,
+  pub guards :
+      (before behind : List Slot) (x : Slot)
+      → events a ≡ before ++ (x ∷ behind)
+      → (n : ℕ) → n < many before → panel .guard (x .event) (after (a .state) before n) ≡ true
+  -- the oldest event undecided,
+  pub oldest : (behind : List Slot) (x : Slot) → events a ≡ x ∷ behind → x .decision ≡ Undecided
+  -- no decision on a held request,
+  pub undecidedHeld : (before behind : List Slot) (x : Slot) → requests a ≡ before ++ (x ∷ behind) → x .decision ≡ Undecided
+  -- and the oldest held request to stay held: 8 events are in progress, or its guard is true in some outcome and false in some other
+  pub stays :
+      (behind : List Slot) (x : Slot)
+      → requests a ≡ x ∷ behind
+      → (8 ≤ length (events a)) ⊎ (GuardSomewhere (a .state) (events a) (x .event) true × GuardSomewhere (a .state) (events a) (x .event) false)
+
+abbrev pub InOrderExactly : Type 0
+InOrderExactly = (a : Account) → (orderOf a ≡ true) ↔ InOrder a
+
+-- each clause broken: the account is not in order
+pub record OutOfOrder (a : Account) : Type 0 where
+  pub progressing : 8 < a .progressing → orderOf a ≡ false
+  pub holding : 8 < a .holding → orderOf a ≡ false
+  pub balance : 1_000_000 < a .state .balance → orderOf a ≡ false
+  pub same :
+      (before between behind : List Slot) (x y : Slot)
+      → events a ++ requests a ≡ before ++ (x ∷ (between ++ (y ∷ behind)))
+      → x .transaction ≡ y .transaction → orderOf a ≡ false
+  pub left :
+      (before behind : List Slot) (x : Slot)
+      → (unused a ≡ before ++ (x ∷ behind)) ⊎ (unusedHeld a ≡ before ++ (x ∷ behind))
+      → (x ≡ record { transaction = 0; second = 0; event = Open 0; decision = Undecided } → ⊥) → orderOf a ≡ false
+  pub balanceLeft : (a .state .life ≡ Opened → ⊥) → 0 < a .state .balance → orderOf a ≡ false
+  pub unguarded :
+      (before behind : List Slot) (x : Slot)
+      → events a ≡ before ++ (x ∷ behind)
+      → GuardSomewhere (a .state) before (x .event) false → orderOf a ≡ false
+  pub oldest : (behind : List Slot) (x : Slot) → events a ≡ x ∷ behind → x .decision ≡ Committed → orderOf a ≡ false
+  pub decidedHeld : (before behind : List Slot) (x : Slot) → requests a ≡ before ++ (x ∷ behind) → x .decision ≡ Committed → orderOf a ≡ false
+  -- a place is free, and the oldest held request would be accepted, or rejected
+  pub decides :
+      (b : Bool) (behind : List Slot) (x : Slot)
+      → requests a ≡ x ∷ behind → length (events a) < 8
+      → ((n : ℕ) → n < many (events a) → panel .guard (x .event) (after (a .state) (events a) n) ≡ b) → orderOf a ≡ false
+
+abbrev pub BrokenClauses : Type 0
+BrokenClauses = (a : Account) → OutOfOrder a

@@ -1,0 +1,87 @@
+-- What the public calls of an account promise, through what is said of their answers: which number is given, as the first test that holds of a list on the account's own places;
+-- that a refusal changes nothing; what a call that is taken gives (document 01, "Numbers given when a call is not taken").
+-- Assumes nothing.
+use Prim.Native.Nat.{ℕ, _^_}
+use mathlib.Core.Path.{_≡_}
+use mathlib.Core.Bool.{Bool, true, false, _&&_, _||_, not}
+use mathlib.Core.List.{List, [], _∷_, map}
+use mathlib.Core.Option.{none, some}
+use lib.Count.{ones}
+use lib.Dec.{leb, ltb, eqb}
+use lib.ListN.{length, take, replicate}
+use Rattle.rule.specs.Lists.{some-of}
+use Rattle.rule.specs.Rule as rule
+use Rattle.rule.specs.Outcome.{undecidedOf, bit}
+use Rattle.rule.specs.Call.{call, written}
+use Rattle.rule.specs.Exact.{chosenState}
+use Rattle.account.specs.declared.Event.{Event}
+use Rattle.account.specs.declared.Decision.{Decision}
+use Rattle.account.specs.declared.Decision.the-variants.{Undecided, Committed}
+use Rattle.account.specs.declared.Slot.{Slot}
+use Rattle.account.specs.declared.Account.{Account}
+use Rattle.account.specs.declared.Told.the-variants.{Noted}
+use Rattle.account.specs.Panel.{panel, tablePanel}
+use Rattle.account.specs.Places.{listsOf}
+use Rattle.account.specs.Order.{orderOf}
+use Rattle.account.specs.Steps.{given, toldOf, entryOf, stepOf, outlookOf}
+use Rattle.account.specs.Tests.{Test, test, firstOf}
+
+-- the outcome question: 5, then 12
+abbrev pub questionTests : Account → ℕ → List Test
+questionTests a n = test (not (orderOf a)) 5 ∷ test (not (ltb n (2 ^ undecidedOf (listsOf a .progress)))) 12 ∷ []
+
+pub record QuestionAnswered (a : Account) (n : ℕ) : Type 0 where
+  pub refusal : toldOf (outlookOf a n) .refusal ≡ firstOf (questionTests a n)
+  -- a refusal tells nothing more;
+  pub nothing : (number : ℕ) → toldOf (outlookOf a n) .refusal ≡ some number
+      → toldOf (outlookOf a n) ≡ record { refusal = some number; state = none; applied = 0 }
+  -- else it tells the state in that outcome, by the table's effects and the bits of the number, and how many undecided events it applies
+  pub told : toldOf (outlookOf a n) .refusal ≡ none
+      → toldOf (outlookOf a n) ≡ record { refusal = none; state = some (chosenState tablePanel (listsOf a .progress) (bit n) (a .state)); applied = ones n }
+
+abbrev pub isCommitted : Decision → Bool
+isCommitted Undecided = false
+isCommitted Committed = true
+
+-- whether one of the first `count` places is that transaction's; whether one is, and is committed
+abbrev pub stands : ℕ → List Slot → ℕ → Bool
+stands t places count = some-of (λ (x : Slot). eqb t (x .transaction)) (take count places)
+
+abbrev pub standsCommitted : ℕ → List Slot → ℕ → Bool
+standsCommitted t places count = some-of (λ (x : Slot). eqb t (x .transaction) && isCommitted (x .decision)) (take count places)
+
+-- a step: 5; of a request then 6 and 7, of a commit 8 to 10, of an abort 8 and 11
+module _ (a : Account) where
+  abbrev pub inProgress : ℕ → Bool
+  inProgress t = stands t (a .progress) (a .progressing)
+
+  abbrev pub onHold : ℕ → Bool
+  onHold t = stands t (a .held) (a .holding)
+
+  abbrev pub committedThere : ℕ → Bool
+  committedThere t = standsCommitted t (a .progress) (a .progressing)
+
+  abbrev pub stepTests : rule.Message ℕ Event → List Test
+  stepTests (rule.request t g e) =
+      test (not (orderOf a)) 5 ∷ test (inProgress t || onHold t) 6 ∷ test (leb 8 (length (take (a .holding) (a .held)))) 7 ∷ []
+  stepTests (rule.commit t g) =
+      test (not (orderOf a)) 5 ∷ test (not (inProgress t || onHold t)) 8 ∷ test (onHold t) 9 ∷ test (committedThere t) 10 ∷ []
+  stepTests (rule.abort t g) =
+      test (not (orderOf a)) 5 ∷ test (not (inProgress t || onHold t)) 8 ∷ test (committedThere t) 11 ∷ []
+
+pub record StepAnswered (a : Account) (m : rule.Message ℕ Event) : Type 0 where
+  pub refusal : given (stepOf a m .answer) ≡ firstOf (stepTests a m)
+  -- a refusal leaves the account as it is and writes nothing;
+  pub unchanged : (number : ℕ) → given (stepOf a m .answer) ≡ some number → stepOf a m .account ≡ a
+  pub silent : (number : ℕ) → given (stepOf a m .answer) ≡ some number
+      → stepOf a m .entries ≡ record { at = replicate 17 (record { transaction = 0; second = 0; told = Noted }); count = 0 }
+  -- else the account has the lists that the rule's call gives, and the entries are the rule's
+  pub lists : given (stepOf a m .answer) ≡ none → listsOf (stepOf a m .account) ≡ call panel (listsOf a) m .account
+  pub entries : given (stepOf a m .answer) ≡ none
+      → take (stepOf a m .entries .count) (stepOf a m .entries .at) ≡ map entryOf (written (call panel (listsOf a) m .answer))
+
+abbrev pub QuestionPromise : Type 0
+QuestionPromise = (a : Account) (n : ℕ) → QuestionAnswered a n
+
+abbrev pub StepPromise : Type 0
+StepPromise = (a : Account) (m : rule.Message ℕ Event) → StepAnswered a m
