@@ -13,8 +13,9 @@ use lib.ListN.{length, getD, take, length-append}
 use Rattle.layout.specs.Number.{numberAt, AreBytes}
 use Rattle.layout.specs.Fields.{Row, rowOf, wholeOf, thenOf, widthsOf, numbersAt, total, lastAccount}
 use Rattle.layout.specs.Events.{eventOf}
+use Rattle.layout.specs.Inverse.{Fit}
 use Rattle.layout.proofs.Numbers.{numberAt-fits}
-use Rattle.layout.proofs.Fields.{Fit, fit-heading, numbersAt-written, written-numbersAt}
+use Rattle.layout.proofs.Fields.{fit-heading, numbersAt-written, written-numbersAt}
 use Rattle.layout.proofs.Tables.{present, unknown}
 use Rattle.message.specs.declared.Message.{Message}
 use Rattle.message.specs.declared.Reading.{Reading}

@@ -4,3 +4,4 @@ pub mod Reader
 pub mod Writer
 pub mod Inverse
 pub mod Refusals
+pub mod Vectors

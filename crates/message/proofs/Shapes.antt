@@ -7,7 +7,7 @@ use lib.ListN.{length, getD}
 use Rattle.account.specs.declared.Event.the-variants.{Open, Withdraw, Deposit, Close}
 use Rattle.layout.specs.Fields.{rowOf, thenOf, widthsOf, total}
 use Rattle.layout.specs.Events.{eventOf}
-use Rattle.layout.proofs.Fields.{Fit, none, one}
+use Rattle.layout.specs.Inverse.{Fit, none, one}
 use Rattle.message.specs.declared.Message.{Message}
 use Rattle.message.specs.declared.Message.the-variants.{Request, Commit, Abort}
 use Rattle.message.specs.Bytes.{messages, kindOf, amountsOf, amountIn, numbersOf, messageBy, messageOf, lengthOfMessage}

@@ -2,3 +2,4 @@ pub mod Bytes
 pub mod Answers
 pub mod Inverse
 pub mod Refusals
+pub mod Vectors
