@@ -5,3 +5,4 @@ pub mod Writer
 pub mod Inverse
 pub mod Refusals
 pub mod Vectors
+pub mod Plain
