@@ -14,8 +14,9 @@ use Rattle.account.specs.declared.Entry.{Entry}
 use Rattle.layout.specs.Number.{numberAt}
 use Rattle.layout.specs.Fields.{Row, rowOf, wholeOf, thenOf, widthsOf, numbersAt, total, lastAccount}
 use Rattle.layout.specs.Events.{eventKind, amountOf, eventOf}
+use Rattle.layout.specs.Inverse.{Fit}
 use Rattle.layout.proofs.Numbers.{numberAt-fits}
-use Rattle.layout.proofs.Fields.{Fit, fit-heading, numbersAt-fit, numbersAt-written, written-numbersAt}
+use Rattle.layout.proofs.Fields.{fit-heading, numbersAt-fit, numbersAt-written, written-numbersAt}
 use Rattle.layout.proofs.Tables.{present, unknown}
 use Rattle.entry.specs.declared.EntryReading.{EntryReading}
 use Rattle.entry.specs.declared.EntryReading.the-variants.{Found, Nothing}

@@ -11,3 +11,4 @@ pub mod Texts
 pub mod Lines
 pub mod Refusals
 pub mod Decimals
+pub mod Vectors

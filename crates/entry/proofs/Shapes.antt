@@ -11,8 +11,9 @@ use Rattle.account.specs.declared.Told.{Told}
 use Rattle.account.specs.declared.Told.the-variants.{Accepted, Rejected, Held, Noted, Applied, Dropped}
 use Rattle.layout.specs.Fields.{rowOf, thenOf, widthsOf, total}
 use Rattle.layout.specs.Events.{eventKind, amountOf, eventOf}
+use Rattle.layout.specs.Inverse.{Fit, none, one}
 use Rattle.layout.proofs.Events.{event-is, kind-fits}
-use Rattle.layout.proofs.Fields.{Fit, none, one, fit-head, fit-tail}
+use Rattle.layout.proofs.Fields.{fit-head, fit-tail}
 use Rattle.entry.specs.Bytes.{entryRows, kindOf, thenNumbers, lengthOfTold, toldBy}
 use Rattle.entry.specs.Answers.{eventFits, thenFits}
 use Rattle.entry.specs.Inverse.{amountIn, weighedIn, balanceIn}

@@ -6,3 +6,5 @@ pub mod Text
 pub mod Words
 pub mod Decimal
 pub mod Refusals
+pub mod Quoted
+pub mod Vectors

@@ -9,13 +9,9 @@ use lib.ListN.{length, take, drop, length-append}
 use lib.Seq.{sets, take-add, drop-drop}
 use Rattle.layout.specs.Number.{bytesOf, numberAt, AreBytes}
 use Rattle.layout.specs.Fields.{written, numbersAt, total, heading, lastAccount}
+use Rattle.layout.specs.Inverse.{NumbersRead, NumbersWritten, Fit, none, one, FieldsRead, FieldsWritten}
 use Rattle.layout.proofs.Stores.{sets-more}
 use Rattle.layout.proofs.Numbers.{length-bytesOf, numberAt-fits, numberAt-bytesOf, bytesOf-numberAt}
-
--- there is a number for each width, and it fits
-pub data Fit : (widths numbers : List ℕ) → Type 0 where
-  none : Fit [] []
-  one : {width number : ℕ} {widths numbers : List ℕ} → number < 256 ^ width → Fit widths numbers → Fit (width ∷ widths) (number ∷ numbers)
 
 pub fit-head : {width number : ℕ} {widths numbers : List ℕ} → Fit (width ∷ widths) (number ∷ numbers) → number < 256 ^ width
 fit-head (one h fit) = h
@@ -96,3 +92,15 @@ pub fit-heading : {then numbers : List ℕ} (kind transaction account second : �
 fit-heading kind transaction account second k t a s fit =
     let a′ : account < 256 ^ 2 = omega arith in
     one k (one t (one a′ (one s fit)))
+
+pub numbers-read : NumbersRead
+numbers-read = numberAt-bytesOf
+
+pub numbers-written : NumbersWritten
+numbers-written = bytesOf-numberAt
+
+pub fields-read : FieldsRead
+fields-read widths numbers before after fit = numbersAt-written before after fit
+
+pub fields-written : FieldsWritten
+fields-written = written-numbersAt

@@ -4,3 +4,4 @@ pub mod Fields
 pub mod Tables
 pub mod Events
 pub mod Answers
+pub mod Plain

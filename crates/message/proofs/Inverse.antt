@@ -13,8 +13,9 @@ use lib.ListN.{length, getD, take, length-append}
 use Rattle.layout.specs.Number.{numberAt, AreBytes}
 use Rattle.layout.specs.Fields.{Row, rowOf, wholeOf, thenOf, widthsOf, numbersAt, total, lastAccount}
 use Rattle.layout.specs.Events.{eventOf}
+use Rattle.layout.specs.Inverse.{Fit}
 use Rattle.layout.proofs.Numbers.{numberAt-fits}
-use Rattle.layout.proofs.Fields.{Fit, fit-heading, numbersAt-written, written-numbersAt}
+use Rattle.layout.proofs.Fields.{fit-heading, numbersAt-written, written-numbersAt}
 use Rattle.layout.proofs.Tables.{present, unknown}
 use Rattle.message.specs.declared.Message.{Message}
 use Rattle.message.specs.declared.Reading.{Reading}
@@ -43,12 +44,12 @@ reads-written m after p =
     ∙ rw (shaped m .numbers)
 
 -- what a message that was read says of the row by which it was read
-record Taken (found : Option Row) (bytes : List ℕ) (m : Message) (whole : ℕ) : Type 0 where
-  positive : 0 < wholeOf found
-  enough : wholeOf found ≤ length bytes
-  account : getD (numbersAt (widthsOf found) bytes 0) 2 0 ≤ lastAccount
-  message : messageOf (numbersAt (widthsOf found) bytes 0) ≡ m
-  length′ : wholeOf found ≡ whole
+pub record Taken (found : Option Row) (bytes : List ℕ) (m : Message) (whole : ℕ) : Type 0 where
+  pub positive : 0 < wholeOf found
+  pub enough : wholeOf found ≤ length bytes
+  pub account : getD (numbersAt (widthsOf found) bytes 0) 2 0 ≤ lastAccount
+  pub message : messageOf (numbersAt (widthsOf found) bytes 0) ≡ m
+  pub length′ : wholeOf found ≡ whole
 
 refused-is-none : (number : ℕ) (m : Message) (whole : ℕ) → Reading′.Refused number ≡ Reading′.Message m whole → ⊥
 refused-is-none number m whole e = let z : _≡_ {A = ℕ} 0 1 = cc in omega arith
@@ -74,7 +75,7 @@ by-row (some r) bytes m whole p e =
       length′ = cc (t .1);
     }
 
-taken-of : (bytes : List ℕ) (m : Message) (whole : ℕ) → readOf bytes ≡ Reading′.Message m whole → Taken (rowOf messages (numberAt bytes 0 1)) bytes m whole
+pub taken-of : (bytes : List ℕ) (m : Message) (whole : ℕ) → readOf bytes ≡ Reading′.Message m whole → Taken (rowOf messages (numberAt bytes 0 1)) bytes m whole
 unfolding readOf messages
 taken-of bytes m whole e =
     let kind = numberAt bytes 0 1 in

@@ -4,3 +4,5 @@ pub mod Reader
 pub mod Writer
 pub mod Inverse
 pub mod Refusals
+pub mod Vectors
+pub mod Plain

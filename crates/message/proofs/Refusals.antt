@@ -1,4 +1,4 @@
--- Each test of the reader and the writer is the document's. A kind has a row exactly if it is 1 to 6; the other tests are those of the definition.
+-- The tests of the reader and the writer in plain numbers: a kind has a row exactly if it is 1 to 6, and its length is that of its range.
 -- Assumes nothing.
 use Prim.Native.Nat.{ℕ, _<_}
 use native.Mathlib.Omega.{arith}
@@ -8,20 +8,23 @@ use mathlib.Core.List.{List, [], _∷_}
 use mathlib.Core.Option.{Option, none, some}
 use borrow.Author.Tests.{leb-true, leb-false, ltb-false}
 use lib.Dec.{leb, ltb, eqb}
-use lib.ListN.{length}
+use lib.ListN.{length, getD}
 use Rattle.layout.specs.Number.{numberAt}
 use Rattle.layout.specs.Fields.{Row, rowOf, wholeOf, widthsOf, numbersAt}
+use Rattle.layout.specs.Plain.{twoAt}
 use Rattle.layout.specs.Answers as Answers′
 use Rattle.layout.specs.Answers.{firstOf, test, wroteOver, refusedWith}
 use Rattle.layout.proofs.Tables.{unknown}
+use Rattle.layout.proofs.Plain.{numbers-plain}
 use Rattle.layout.proofs.Answers.{wrote-stays, cond-stays}
 use Rattle.message.specs.declared.Message.{Message}
 use Rattle.message.specs.declared.Reading.{Reading}
 use Rattle.message.specs.declared.Reading.the-variants as Reading′
 use Rattle.message.specs.Bytes.{messages, headingOf, messageOf, bytesOfMessage, lengthOfMessage}
 use Rattle.message.specs.Answers.{Given, given, readOf, readKind, readNumbers, writeOf}
-use Rattle.message.specs.Refusals.{ReaderRefuses, WriterRefuses, WriterStays, ReadingsApart}
+use Rattle.message.specs.Refusals.{kindLength, LengthsPlain, ReaderRefuses, WriterRefuses, WriterStays, ReadingsApart}
 use Rattle.message.proofs.Lengths.{with-amount, without-amount, below-kinds, above-kinds}
+use Rattle.message.proofs.Shapes.{shaped}
 use Rattle.message.proofs.Writer.{length-message}
 
 -- the refusal where a test comes first
@@ -31,14 +34,14 @@ reading-cond false number next = refl
 
 -- the length of a kind, by its two tests
 module _ (kind : ℕ) where
-  known-length : leb 1 kind && leb kind 6 ≡ true → 0 < wholeOf (rowOf messages kind)
+  known-length : leb 1 kind && leb kind 6 ≡ true → wholeOf (rowOf messages kind) ≡ kindLength kind
   known-length e = go (leb 1 kind) (leb kind 6) (leb kind 3) refl refl refl e
     where
-      go : (a b d : Bool) → leb 1 kind ≡ a → leb kind 6 ≡ b → leb kind 3 ≡ d → a && b ≡ true → 0 < wholeOf (rowOf messages kind)
+      go : (a b d : Bool) → leb 1 kind ≡ a → leb kind 6 ≡ b → leb kind 3 ≡ d → a && b ≡ true → wholeOf (rowOf messages kind) ≡ cond d 15 11
       go false b d p q r e = absurd (false≢true e)
       go true false d p q r e = absurd (false≢true e)
-      go true true true p q r e = rw (with-amount kind (leb-true 1 kind p) (leb-true kind 3 r)) (omega arith)
-      go true true false p q r e = rw (without-amount kind (leb-false kind 3 r) (leb-true kind 6 q)) (omega arith)
+      go true true true p q r e = with-amount kind (leb-true 1 kind p) (leb-true kind 3 r)
+      go true true false p q r e = without-amount kind (leb-false kind 3 r) (leb-true kind 6 q)
 
   unknown-length : leb 1 kind && leb kind 6 ≡ false → wholeOf (rowOf messages kind) ≡ 0
   unknown-length e = go (leb 1 kind) (leb kind 6) refl refl e
@@ -48,37 +51,48 @@ module _ (kind : ℕ) where
       go true false p q e = above-kinds kind (leb-false kind 6 q)
       go false b p q e = below-kinds kind (leb-false 1 kind p)
 
+pub lengths-plain : LengthsPlain
+lengths-plain kind = go (leb 1 kind && leb kind 6) refl
+  where
+    go : (b : Bool) → leb 1 kind && leb kind 6 ≡ b → wholeOf (rowOf messages kind) ≡ cond b (kindLength kind) 0
+    go true e = known-length kind e
+    go false e = unknown-length kind e
+
+positive : (b : Bool) → 0 < cond b 15 11
+positive true = omega arith
+positive false = omega arith
+
 -- the refusals where there is a row
-row-refuses : (found : Option Row) (bytes : List ℕ) → 0 < wholeOf found
-    → given (readKind found bytes) .refusal
-    ≡ firstOf (test (ltb (length bytes) (wholeOf found)) 1 ∷ test (ltb 15 (numberAt bytes 5 2)) 3 ∷ [])
+row-refuses : (found : Option Row) (bytes : List ℕ) (whole : ℕ) → wholeOf found ≡ whole → 0 < whole
+    → given (readKind found bytes) .refusal ≡ firstOf (test (ltb (length bytes) whole) 1 ∷ test (ltb 15 (twoAt bytes 5)) 3 ∷ [])
 unfolding numbersAt
-row-refuses none bytes p = absurd (omega arith)
-row-refuses (some r) bytes p =
+row-refuses none bytes whole w p = absurd (omega arith)
+row-refuses (some r) bytes whole w p =
     let numbers = numbersAt (widthsOf (some r)) bytes 0 in
-    reading-cond (ltb (length bytes) (r .whole)) 1 (readNumbers (r .whole) numbers)
-    ∙ ap (cond (ltb (length bytes) (r .whole)) (some 1)) (reading-cond (ltb 15 (numberAt bytes 5 2)) 3 (Reading′.Message (messageOf numbers) (r .whole)))
+    rw (← w, ← numbers-plain bytes 5 0 .read2)
+    (reading-cond (ltb (length bytes) (r .whole)) 1 (readNumbers (r .whole) numbers)
+    ∙ ap (cond (ltb (length bytes) (r .whole)) (some 1)) (reading-cond (ltb 15 (numberAt bytes 5 2)) 3 (Reading′.Message (messageOf numbers) (r .whole))))
 
 kind-refuses : (kind : ℕ) (bytes : List ℕ) → given (readKind (rowOf messages kind) bytes) .refusal
-    ≡ cond (not (leb 1 kind && leb kind 6)) (some 2)
-    (firstOf (test (ltb (length bytes) (wholeOf (rowOf messages kind))) 1 ∷ test (ltb 15 (numberAt bytes 5 2)) 3 ∷ []))
+    ≡ firstOf (test (not (leb 1 kind && leb kind 6)) 2 ∷ test (ltb (length bytes) (kindLength kind)) 1 ∷ test (ltb 15 (twoAt bytes 5)) 3 ∷ [])
 unfolding messages
 kind-refuses kind bytes = go (leb 1 kind && leb kind 6) refl
   where
     go : (b : Bool) → leb 1 kind && leb kind 6 ≡ b → given (readKind (rowOf messages kind) bytes) .refusal
-        ≡ cond (not b) (some 2) (firstOf (test (ltb (length bytes) (wholeOf (rowOf messages kind))) 1 ∷ test (ltb 15 (numberAt bytes 5 2)) 3 ∷ []))
-    go true e = row-refuses (rowOf messages kind) bytes (known-length kind e)
+        ≡ firstOf (test (not b) 2 ∷ test (ltb (length bytes) (kindLength kind)) 1 ∷ test (ltb 15 (twoAt bytes 5)) 3 ∷ [])
+    go true e = row-refuses (rowOf messages kind) bytes (kindLength kind) (known-length kind e) (positive (leb kind 3))
     go false e = rw (unknown messages kind (omega arith) (unknown-length kind e))
 
 pub reader-refuses : ReaderRefuses
 unfolding readOf
 reader-refuses bytes =
-    let found = rowOf messages (numberAt bytes 0 1) in
-    reading-cond (eqb (length bytes) 0) 1 (readKind found bytes) ∙ ap (cond (eqb (length bytes) 0) (some 1)) (kind-refuses (numberAt bytes 0 1) bytes)
+    let kind = getD bytes 0 0 in
+    rw (numbers-plain bytes 0 0 .read1)
+    (reading-cond (eqb (length bytes) 0) 1 (readKind (rowOf messages kind) bytes) ∙ ap (cond (eqb (length bytes) 0) (some 1)) (kind-refuses kind bytes))
 
 pub writer-refuses : WriterRefuses
 unfolding writeOf
-writer-refuses m buffer = go (ltb 15 (headingOf m .account)) (ltb (length buffer) (lengthOfMessage m))
+writer-refuses m buffer = rw (← shaped m .length′) (go (ltb 15 (headingOf m .account)) (ltb (length buffer) (lengthOfMessage m)))
   where
     go : (a b : Bool)
         → Answers′.given (cond a (refusedWith 3 buffer) (cond b (refusedWith 4 buffer) (wroteOver (bytesOfMessage m) buffer)) .answer) .refusal

@@ -7,10 +7,11 @@ use lib.ListN.{length, getD}
 use Rattle.account.specs.declared.Event.the-variants.{Open, Withdraw, Deposit, Close}
 use Rattle.layout.specs.Fields.{rowOf, thenOf, widthsOf, total}
 use Rattle.layout.specs.Events.{eventOf}
-use Rattle.layout.proofs.Fields.{Fit, none, one}
+use Rattle.layout.specs.Inverse.{Fit, none, one}
 use Rattle.message.specs.declared.Message.{Message}
 use Rattle.message.specs.declared.Message.the-variants.{Request, Commit, Abort}
 use Rattle.message.specs.Bytes.{messages, kindOf, amountsOf, amountIn, numbersOf, messageBy, messageOf, lengthOfMessage}
+use Rattle.message.specs.Plain.{lengthIn}
 
 pub record Shaped (m : Message) : Type 0 where
   -- it is what its numbers say
@@ -19,6 +20,8 @@ pub record Shaped (m : Message) : Type 0 where
   pub paired : length (widthsOf (rowOf messages (kindOf m))) ≡ length (numbersOf m)
   -- the widths make up the whole length
   pub whole : total (widthsOf (rowOf messages (kindOf m))) ≡ lengthOfMessage m
+  -- which is the plain one
+  pub length′ : lengthOfMessage m ≡ lengthIn m
   -- its amount stands after the heading, where it has one
   pub amounts : amountIn m ≡ getD (amountsOf m) 0 0
   -- the kind is a byte, and an amount that fits four bytes fits its width
@@ -27,9 +30,9 @@ pub record Shaped (m : Message) : Type 0 where
 
 pub shaped : (m : Message) → Shaped m
 unfolding rowOf messages messageBy eventOf lengthOfMessage
-shaped (Request h (Open a)) = record { numbers = refl; paired = refl; whole = refl; amounts = refl; kind = lit< tt; amount = λ p. one p none }
-shaped (Request h (Withdraw a)) = record { numbers = refl; paired = refl; whole = refl; amounts = refl; kind = lit< tt; amount = λ p. one p none }
-shaped (Request h (Deposit a)) = record { numbers = refl; paired = refl; whole = refl; amounts = refl; kind = lit< tt; amount = λ p. one p none }
-shaped (Request h Close) = record { numbers = refl; paired = refl; whole = refl; amounts = refl; kind = lit< tt; amount = λ p. none }
-shaped (Commit h) = record { numbers = refl; paired = refl; whole = refl; amounts = refl; kind = lit< tt; amount = λ p. none }
-shaped (Abort h) = record { numbers = refl; paired = refl; whole = refl; amounts = refl; kind = lit< tt; amount = λ p. none }
+shaped (Request h (Open a)) = record { numbers = refl; paired = refl; whole = refl; length′ = refl; amounts = refl; kind = lit< tt; amount = λ p. one p none }
+shaped (Request h (Withdraw a)) = record { numbers = refl; paired = refl; whole = refl; length′ = refl; amounts = refl; kind = lit< tt; amount = λ p. one p none }
+shaped (Request h (Deposit a)) = record { numbers = refl; paired = refl; whole = refl; length′ = refl; amounts = refl; kind = lit< tt; amount = λ p. one p none }
+shaped (Request h Close) = record { numbers = refl; paired = refl; whole = refl; length′ = refl; amounts = refl; kind = lit< tt; amount = λ p. none }
+shaped (Commit h) = record { numbers = refl; paired = refl; whole = refl; length′ = refl; amounts = refl; kind = lit< tt; amount = λ p. none }
+shaped (Abort h) = record { numbers = refl; paired = refl; whole = refl; length′ = refl; amounts = refl; kind = lit< tt; amount = λ p. none }

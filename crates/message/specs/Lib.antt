@@ -1,4 +1,6 @@
 pub mod Bytes
 pub mod Answers
 pub mod Inverse
+pub mod Plain
 pub mod Refusals
+pub mod Vectors

@@ -2,31 +2,39 @@
 -- Assumes nothing.
 use Prim.Native.Nat.{ℕ}
 use mathlib.Core.Path.{_≡_}
-use mathlib.Core.Bool.{not, _&&_}
+use mathlib.Core.Bool.{cond, not, _&&_}
 use mathlib.Core.List.{List, [], _∷_}
 use lib.Dec.{eqb, leb, ltb}
-use lib.ListN.{length}
-use Rattle.layout.specs.Number.{numberAt}
+use lib.ListN.{length, getD}
 use Rattle.layout.specs.Fields.{rowOf, wholeOf}
+use Rattle.layout.specs.Plain.{twoAt}
 use Rattle.layout.specs.Answers as Answers′
 use Rattle.layout.specs.Answers.{Test, test, firstOf, Stays}
 use Rattle.message.specs.declared.Message.{Message}
 use Rattle.message.specs.declared.Reading.{Reading}
-use Rattle.message.specs.Bytes.{messages, headingOf, lengthOfMessage}
+use Rattle.message.specs.Bytes.{messages, headingOf}
 use Rattle.message.specs.Answers.{given, readOf, writeOf}
+use Rattle.message.specs.Plain.{lengthIn}
 
--- "The message reader by itself checks 1, 2, 1 and 3 in that order"
+-- kinds 1 to 3 have 15 bytes, 4 to 6 have 11, and there are no others
+abbrev pub kindLength : (kind : ℕ) → ℕ
+kindLength kind = cond (leb kind 3) 15 11
+
+abbrev pub LengthsPlain : Type 0
+LengthsPlain = (kind : ℕ) → wholeOf (rowOf messages kind) ≡ cond (leb 1 kind && leb kind 6) (kindLength kind) 0
+
+-- the reader: 1, 2, 1 and 3, in plain numbers; the kind is the first byte, the account the sixth and the seventh
 abbrev pub readerTests : (bytes : List ℕ) → List Test
 readerTests bytes =
     test (eqb (length bytes) 0) 1 ∷
-    test (not (leb 1 (numberAt bytes 0 1) && leb (numberAt bytes 0 1) 6)) 2 ∷
-    test (ltb (length bytes) (wholeOf (rowOf messages (numberAt bytes 0 1)))) 1 ∷
-    test (ltb 15 (numberAt bytes 5 2)) 3 ∷
+    test (not (leb 1 (getD bytes 0 0) && leb (getD bytes 0 0) 6)) 2 ∷
+    test (ltb (length bytes) (kindLength (getD bytes 0 0))) 1 ∷
+    test (ltb 15 (twoAt bytes 5)) 3 ∷
     []
 
--- "the message writer 3, 4"
+-- the writer: 3, 4
 abbrev pub writerTests : Message → (buffer : List ℕ) → List Test
-writerTests m buffer = test (ltb 15 (headingOf m .account)) 3 ∷ test (ltb (length buffer) (lengthOfMessage m)) 4 ∷ []
+writerTests m buffer = test (ltb 15 (headingOf m .account)) 3 ∷ test (ltb (length buffer) (lengthIn m)) 4 ∷ []
 
 -- each number exactly if its test is the first that holds
 abbrev pub ReaderRefuses : Type 0

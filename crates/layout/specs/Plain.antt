@@ -1,0 +1,83 @@
+-- Numbers, the heading, events and buffers in plain arithmetic and plain rows: the definitions of this crate said a second time, from outside
+-- (document 01, "Bytes"). A byte order, a field's place or an event's kind that definition and code changed together would be seen here.
+-- Assumes nothing.
+use Prim.Native.Nat.{ℕ, _+_, _*_, _-_, _/_, _%_, _^_, _≤_, _<_}
+use mathlib.Core.Path.{_≡_}
+use mathlib.Core.Bool.{true, false, _&&_}
+use mathlib.Core.List.{List, [], _∷_, _++_, map}
+use mathlib.Core.Option.{some}
+use lib.Dec.{leb}
+use lib.ListN.{length, getD}
+use Rattle.account.specs.declared.Event.{Event}
+use Rattle.account.specs.declared.Event.the-variants.{Open, Withdraw, Deposit, Close}
+use Rattle.layout.specs.Number.{bytesOf, numberAt}
+use Rattle.layout.specs.Fields.{written, heading}
+use Rattle.layout.specs.Events.{eventKind, amountOf, eventOf}
+use Rattle.layout.specs.Answers.{laidOver, test, firstOf}
+
+-- the number in 2 bytes, and in 4
+abbrev pub twoAt : (bytes : List ℕ) (at : ℕ) → ℕ
+twoAt bytes at = getD bytes at 0 * 256 + getD bytes (at + 1) 0
+
+abbrev pub fourAt : (bytes : List ℕ) (at : ℕ) → ℕ
+fourAt bytes at =
+    getD bytes at 0 * 16_777_216 + getD bytes (at + 1) 0 * 65_536 + getD bytes (at + 2) 0 * 256 + getD bytes (at + 3) 0
+
+-- the 2 bytes of a number, and its 4
+abbrev pub twoOf : (number : ℕ) → List ℕ
+twoOf number = number / 256 % 256 ∷ number % 256 ∷ []
+
+abbrev pub fourOf : (number : ℕ) → List ℕ
+fourOf number = number / 16_777_216 % 256 ∷ number / 65_536 % 256 ∷ number / 256 % 256 ∷ number % 256 ∷ []
+
+-- what stands in the widths that document 01 has
+pub record Plain (bytes : List ℕ) (at number : ℕ) : Type 0 where
+  pub read1 : numberAt bytes at 1 ≡ getD bytes at 0
+  pub read2 : numberAt bytes at 2 ≡ twoAt bytes at
+  pub read4 : numberAt bytes at 4 ≡ fourAt bytes at
+  pub bytes1 : bytesOf 1 number ≡ number % 256 ∷ []
+  pub bytes2 : bytesOf 2 number ≡ twoOf number
+  pub bytes4 : bytesOf 4 number ≡ fourOf number
+
+abbrev pub NumbersPlain : Type 0
+NumbersPlain = (bytes : List ℕ) (at number : ℕ) → Plain bytes at number
+
+-- in any width: as many bytes as it says, the highest first
+pub record Bytes (width number : ℕ) : Type 0 where
+  pub length′ : length (bytesOf width number) ≡ width
+  pub each : (i : ℕ) → i < width → getD (bytesOf width number) i 0 ≡ number / 256 ^ (width - 1 - i) % 256
+
+abbrev pub BytesHighestFirst : Type 0
+BytesHighestFirst = (width number : ℕ) → Bytes width number
+
+-- kind, transaction, account, second: 1, 4, 2 and 4 bytes, one after the other
+abbrev pub HeadingPlain : Type 0
+HeadingPlain =
+    (kind transaction account second : ℕ)
+    → written heading (kind ∷ transaction ∷ account ∷ second ∷ [])
+    ≡ kind % 256 ∷ (fourOf transaction ++ (twoOf account ++ fourOf second))
+
+-- the four events in the order of their kinds 1 to 4; a close has the amount 0
+abbrev pub events : (amount : ℕ) → List Event
+events amount = Open amount ∷ Withdraw amount ∷ Deposit amount ∷ Close ∷ []
+
+pub record Events (amount : ℕ) : Type 0 where
+  pub kinds : map eventKind (events amount) ≡ 1 ∷ 2 ∷ 3 ∷ 4 ∷ []
+  pub amounts : map amountOf (events amount) ≡ amount ∷ amount ∷ amount ∷ 0 ∷ []
+  pub back : map (λ (kind : ℕ). eventOf kind amount) (1 ∷ 2 ∷ 3 ∷ 4 ∷ []) ≡ events amount
+  pub other : (kind : ℕ) → leb 1 kind && leb kind 3 ≡ false → eventOf kind amount ≡ Close
+
+abbrev pub EventsPlain : Type 0
+EventsPlain = (amount : ℕ) → Events amount
+
+-- bytes laid over a buffer stand at its beginning, and behind them stands what stood there
+pub record Over (bytes buffer : List ℕ) : Type 0 where
+  pub first : (i : ℕ) → i < length bytes → getD (laidOver bytes buffer) i 0 ≡ getD bytes i 0
+  pub behind : (i : ℕ) → length bytes ≤ i → getD (laidOver bytes buffer) i 0 ≡ getD buffer i 0
+
+abbrev pub LaidOverPlain : Type 0
+LaidOverPlain = (bytes buffer : List ℕ) → Over bytes buffer
+
+-- of two tests that hold the first is taken, and one that does not hold is passed
+abbrev pub FirstPlain : Type 0
+FirstPlain = (a b c : ℕ) → firstOf (test false a ∷ test true b ∷ test true c ∷ []) ≡ some b
