@@ -1,7 +1,7 @@
 -- Demand 3 on bytes: each of the sixteen accounts is the account of lists that have been told as it sees the exchanges. A call keeps that, by cases on what was read,
 -- on the buffer's length and on the named account's answer; a sequence keeps it by induction.
 -- Assumes nothing.
-use Prim.Native.Nat.{ℕ, _+_, _-_, _<_, _≤_}
+use Prim.Native.Nat.{ℕ, _+_, _<_}
 use mathlib.Core.Path.{_≡_, refl, sym, _∙_, ap}
 use mathlib.Core.Bool.{Bool, true, false, cond, _&&_}
 use mathlib.Core.List.{List, [], _∷_, _++_, append-nil, append-assoc}
@@ -13,7 +13,6 @@ use borrow.Author.Tests.{eqb-true, eqb-false, leb-true}
 use Rattle.rule.specs.Rule as rule
 use Rattle.rule.specs.Call as rule-call
 use Rattle.rule.specs.History.{Seen, linesFrom}
-use Rattle.rule.specs.Demand as rule-demand
 use Rattle.rule.specs.Order as rule-order
 use Rattle.rule.specs.Says.{MessageSays, AccountSays}
 use Rattle.rule.proofs.Lists.{and-right}
@@ -26,7 +25,6 @@ use Rattle.account.specs.declared.Event.the-variants.{Open, Withdraw, Deposit, 
 use Rattle.account.specs.declared.Entry.{Entry}
 use Rattle.account.specs.declared.State.{State}
 use Rattle.account.specs.declared.Account.{Account}
-use Rattle.account.specs.declared.Answer.the-variants as Step′
 use Rattle.account.specs.Panel.{limit, isNew, isOpened, guardOf, tableEffect, effectOf, panel}
 use Rattle.account.specs.Places.{RuleAccount, accountOf}
 use Rattle.account.specs.Steps.{entriesOf, calledBy, stepOf}

@@ -1,3 +1,5 @@
+pub mod ReadAs
+pub mod Refusals
 pub mod Unchanged
 pub mod ReadBack
 pub mod Demand3

@@ -4,11 +4,17 @@ use Prim.Native.Nat.{ℕ, _<_, _≤_}
 use mathlib.Core.Path.{_≡_}
 use mathlib.Core.Bool.{true}
 use mathlib.Core.List.{List, [], _∷_, map}
-use lib.ListN.{length}
+use mathlib.Core.Option.{none, some}
+use lib.ListN.{length, replicate}
 use Rattle.rule.specs.Call.{Answer, refused, taken, Called, call}
 use Rattle.rule.specs.Exact.{Numbered, Exact, Decided}
 use Rattle.rule.specs.Demand as rule
 use Rattle.account.specs.declared.Event.{Event}
+use Rattle.account.specs.declared.Event.the-variants.{Open}
+use Rattle.account.specs.declared.Life.the-variants.{New}
+use Rattle.account.specs.declared.Decision.the-variants.{Undecided}
+use Rattle.account.specs.declared.Slot.{Slot}
+use Rattle.account.specs.declared.Account.{Account}
 use Rattle.account.specs.declared.State.{State}
 use Rattle.account.specs.Panel.{guardOf, tableEffect, panel}
 use Rattle.account.specs.Places.{RuleSlot, RuleAccount, listsOf, accountOf}
@@ -26,10 +32,11 @@ use Rattle.entry.specs.Answers.{longestCall}
 use Rattle.register.specs.declared.Register.{Register}
 use Rattle.register.specs.declared.Answer.the-variants.{Taken}
 use Rattle.register.specs.Register.{freshRegister, accountAt, withAccount, ruleMessage}
-use Rattle.register.specs.Call.{Result, refusedWith, callOf}
+use Rattle.register.specs.Call.{Result, refusalOf, refusedWith, callOf}
 use Rattle.register.specs.Sequence.{Input, after, exchanges, seenBy}
 use Rattle.register.specs.Seconds.{OtherSeconds, SameExchanges}
-use Rattle.register.specs.Unchanged.{Checked}
+use Rattle.register.specs.Refusals.{CallRefuses, OutlookTells}
+use Rattle.register.specs.Unchanged.{Refusal, Taking}
 
 -- the rule's answer in bytes: a refusal changes nothing; else the account that follows stands in its place, and its entries at the beginning of the buffer
 abbrev pub ruledBy : Register → (buffer : List ℕ) (account consumed : ℕ) → RuleAccount → Answer ℕ Event ℕ → Result
@@ -41,14 +48,29 @@ ruledBy r buffer i consumed next (taken xs) =
 abbrev pub ruled : Register → (buffer : List ℕ) (account consumed : ℕ) → Called ℕ State Event ℕ → Result
 ruled r buffer i consumed called = ruledBy r buffer i consumed (called .account) (called .answer)
 
+-- a new account, and its places
+abbrev pub blankPlaces : List Slot
+blankPlaces = replicate 8 (record { transaction = 0; second = 0; event = Open 0; decision = Undecided })
+
+abbrev pub freshAccount : Account
+freshAccount = record { state = record { life = New; balance = 0 }; progress = blankPlaces; progressing = 0; held = blankPlaces; holding = 0 }
+
 -- every message of these is a string of bytes
 abbrev pub ByteStrings : List Input → Type 0
 ByteStrings [] = Unit {0}
 ByteStrings (x ∷ xs) = AreBytes (x .message) × ByteStrings xs
 
 -- Demand 1: every register, message and buffer.
-abbrev pub Demand1 : Type 0
-Demand1 = (r : Register) (bytes buffer : List ℕ) → Checked r bytes buffer
+pub record Demand1 : Type 0 where
+  -- "A fresh register has 16 accounts, numbered 0 to 15, all new, nothing in progress or held", each with its 16 places blank
+  pub fresh : freshRegister ≡ record { accounts = replicate 16 freshAccount }
+  -- which calls are refused, and with which number;
+  pub exactly : CallRefuses
+  -- what a refusal leaves, and what a message that is taken does;
+  pub refused : (r : Register) (bytes buffer : List ℕ) (n : ℕ) → refusalOf (callOf r bytes buffer .answer) ≡ some n → Refusal r bytes buffer n
+  pub taken : (r : Register) (bytes buffer : List ℕ) → refusalOf (callOf r bytes buffer .answer) ≡ none → Taking r bytes buffer
+  -- and what the outcome question answers
+  pub asked : OutlookTells
 
 -- Demand 2. Each request is decided as the rule says: of a message that was read, with room for its entries, to an account in order, the account that follows and the answer
 -- are those of the rule's call on the account's lists.
