@@ -5,6 +5,9 @@ pub mod ReadBack
 pub mod Demand3
 pub mod OtherSecond
 pub mod Seconds
+pub mod AsTheRule
+pub mod Took
+pub mod Own
 pub mod Demand2
 pub mod Demands
 pub mod Accounts

@@ -137,3 +137,6 @@ module _ (bytes : List ℕ) where
             message = let z : m ≡ messageIn = cc in z;
             length′ = let z : consumed ≡ lengthBy kindIn = cc in z;
           }
+
+  pub account-read : (m : Message) (consumed : ℕ) → readOf bytes ≡ Reading′.Message m consumed → headingOf m .account ≡ accountIn bytes
+  account-read m consumed e = ap (λ (m′ : Message). headingOf m′ .account) (read-as m consumed e .message) ∙ named-account

@@ -91,7 +91,7 @@ module _ (a : Account) (t g : ℕ) where
   abort-refusal = rw (named-used t (progressIn a), named-used t (heldIn a), committed-used t (progressIn a))
 
 -- the tests of an account
-abbrev accountTests : (kind : ℕ) → Account → (t : ℕ) → List Test
+abbrev pub accountTests : (kind : ℕ) → Account → (t : ℕ) → List Test
 accountTests kind a t =
     test (leb kind 4 && (isInProgress a t || isHeld a t)) 6 ∷
     test (leb kind 4 && leb 8 (length (heldIn a))) 7 ∷
@@ -102,7 +102,7 @@ accountTests kind a t =
     []
 
 module _ (kind : ℕ) (h : Heading) (amount : ℕ) where
-  kind-refusal : (a : Account) → kind ≤ 6 → rule-call.refusal panel (listsOf a) (ruleMessage (messageBy kind h amount)) ≡ firstOf (accountTests kind a (h .transaction))
+  pub kind-refusal : (a : Account) → kind ≤ 6 → rule-call.refusal panel (listsOf a) (ruleMessage (messageBy kind h amount)) ≡ firstOf (accountTests kind a (h .transaction))
   unfolding messageBy
   kind-refusal a l = go (eqb kind 5) (eqb kind 6) refl refl
     where

@@ -29,9 +29,9 @@ use Rattle.register.specs.declared.Register.{Register}
 use Rattle.register.specs.declared.Answer.the-variants.{Refused, Taken}
 use Rattle.register.specs.Register.{nowhere, accountAt, ruleMessage, stepBy}
 use Rattle.register.specs.Call.{Result, refusalOf, consumedOf, writtenOf, refusedWith, afterStep, afterMessage, afterReading, callOf}
-use Rattle.register.specs.Refusals.{accountIn, standingAt, callTests}
+use Rattle.register.specs.Refusals.{standingAt, callTests}
 use Rattle.register.specs.Unchanged.{Refusal, Taking, AnswersApart}
-use Rattle.register.proofs.ReadAs.{read-as, named-account}
+use Rattle.register.proofs.ReadAs.{read-as, account-read}
 use Rattle.register.proofs.Refusals.{call-refuses}
 
 -- a number of the list
@@ -145,7 +145,6 @@ module _ (r : Register) (bytes buffer : List ℕ) where
       go (Reading′.Message m consumed) q h =
           let read = read-as bytes m consumed q in
           let parts = parts-message m consumed h in
-          let named : headingOf m .account ≡ accountIn bytes = ap (λ (m′ : Message). headingOf m′ .account) (read .message) ∙ named-account bytes in
           record {
             consumed = rw q (parts .passed ∙ read .length′);
             whole = read .whole;
@@ -153,7 +152,7 @@ module _ (r : Register) (bytes buffer : List ℕ) where
             size = rw q (parts .size);
             rest = rw q (parts .rest);
             count = rw q (parts .count);
-            others = λ j other. rw q (parts .others j (λ e. other (e ∙ named)));
+            others = λ j other. rw q (parts .others j (λ e. other (e ∙ account-read bytes m consumed q)));
           }
 
 pub answers-apart : AnswersApart

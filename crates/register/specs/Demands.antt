@@ -3,9 +3,9 @@
 use Prim.Native.Nat.{ℕ, _<_, _≤_}
 use mathlib.Core.Path.{_≡_}
 use mathlib.Core.Bool.{true}
-use mathlib.Core.List.{List, [], _∷_, map}
-use mathlib.Core.Option.{none, some}
-use lib.ListN.{length, replicate}
+use mathlib.Core.List.{List, [], _∷_, _++_, map}
+use mathlib.Core.Option.{Option, none, some}
+use lib.ListN.{length, drop, set, replicate}
 use Rattle.rule.specs.Call.{Answer, refused, taken, Called, call}
 use Rattle.rule.specs.Exact.{Numbered, Exact, Decided}
 use Rattle.rule.specs.Demand as rule
@@ -21,32 +21,37 @@ use Rattle.account.specs.Places.{RuleSlot, RuleAccount, listsOf, accountOf}
 use Rattle.account.specs.Order.{orderOf}
 use Rattle.account.specs.Steps.{entryOf}
 use Rattle.layout.specs.Number.{AreBytes}
-use Rattle.layout.specs.Answers.{laidOver}
 use Rattle.message.specs.declared.Message.{Message}
 use Rattle.message.specs.declared.Reading.the-variants as Reading′
-use Rattle.message.specs.Bytes.{headingOf}
 use Rattle.message.specs.Answers.{readOf}
 use Rattle.message.specs.Inverse.{ReadsWritten, WritesRead}
 use Rattle.entry.specs.Bytes.{bytesOfEntries}
-use Rattle.entry.specs.Answers.{longestCall}
 use Rattle.register.specs.declared.Register.{Register}
-use Rattle.register.specs.declared.Answer.the-variants.{Taken}
-use Rattle.register.specs.Register.{freshRegister, accountAt, withAccount, ruleMessage}
-use Rattle.register.specs.Call.{Result, refusalOf, refusedWith, callOf}
+use Rattle.register.specs.Register.{freshRegister, accountAt, ruleMessage}
+use Rattle.register.specs.Call.{Result, refusalOf, consumedOf, writtenOf, callOf}
 use Rattle.register.specs.Sequence.{Input, after, exchanges, seenBy}
 use Rattle.register.specs.Seconds.{OtherSeconds, SameExchanges}
-use Rattle.register.specs.Refusals.{CallRefuses, OutlookTells}
+use Rattle.register.specs.Refusals.{accountIn, standingAt, CallRefuses, OutlookTells}
+use Rattle.register.specs.Own.{EachOwnEntry, Brings}
 use Rattle.register.specs.Unchanged.{Refusal, Taking}
 
--- the rule's answer in bytes: a refusal changes nothing; else the account that follows stands in its place, and its entries at the beginning of the buffer
-abbrev pub ruledBy : Register → (buffer : List ℕ) (account consumed : ℕ) → RuleAccount → Answer ℕ Event ℕ → Result
-ruledBy r buffer i consumed next (refused n) = refusedWith r buffer n
-ruledBy r buffer i consumed next (taken xs) =
-    let bytes = bytesOfEntries i (map entryOf xs) in
-    record { answer = Taken consumed (length bytes); register = withAccount r i (accountOf next); buffer = laidOver bytes buffer }
+-- what a call gives, by what document 01 says of its answer
+pub record Gives (result : Result) (refusal : Option ℕ) (consumed written : ℕ) (register : Register) (buffer : List ℕ) : Type 0 where
+  pub refusal′ : refusalOf (result .answer) ≡ refusal
+  pub consumed′ : consumedOf (result .answer) ≡ consumed
+  pub written′ : writtenOf (result .answer) ≡ written
+  pub register′ : result .register ≡ register
+  pub buffer′ : result .buffer ≡ buffer
 
-abbrev pub ruled : Register → (buffer : List ℕ) (account consumed : ℕ) → Called ℕ State Event ℕ → Result
-ruled r buffer i consumed called = ruledBy r buffer i consumed (called .account) (called .answer)
+-- the rule's answer in bytes: a refusal changes nothing; else the account that follows stands in its place, and its entries at the beginning of the buffer
+abbrev pub RuledBy : Register → (buffer : List ℕ) (account consumed : ℕ) → RuleAccount → Answer ℕ Event ℕ → Result → Type 0
+RuledBy r buffer i consumed next (refused n) result = Gives result (some n) 0 0 r buffer
+RuledBy r buffer i consumed next (taken xs) result =
+    let bytes = bytesOfEntries i (map entryOf xs) in
+    Gives result none consumed (length bytes) (record { accounts = set (r .accounts) i (accountOf next) }) (bytes ++ drop (length bytes) buffer)
+
+abbrev pub Ruled : Register → (buffer : List ℕ) (account consumed : ℕ) → Called ℕ State Event ℕ → Result → Type 0
+Ruled r buffer i consumed called result = RuledBy r buffer i consumed (called .account) (called .answer) result
 
 -- a new account, and its places
 abbrev pub blankPlaces : List Slot
@@ -76,9 +81,9 @@ pub record Demand1 : Type 0 where
 -- are those of the rule's call on the account's lists.
 abbrev pub AsTheRule : Type 0
 AsTheRule =
-    (r : Register) (bytes buffer : List ℕ) (m : Message) (consumed : ℕ) → readOf bytes ≡ Reading′.Message m consumed → longestCall ≤ length buffer
-    → orderOf (accountAt r (headingOf m .account)) ≡ true
-    → callOf r bytes buffer ≡ ruled r buffer (headingOf m .account) consumed (call panel (listsOf (accountAt r (headingOf m .account))) (ruleMessage m))
+    (r : Register) (bytes buffer : List ℕ) (m : Message) (consumed : ℕ) → readOf bytes ≡ Reading′.Message m consumed → 315 ≤ length buffer
+    → orderOf (standingAt r (accountIn bytes)) ≡ true
+    → Ruled r buffer (accountIn bytes) consumed (call panel (listsOf (standingAt r (accountIn bytes))) (ruleMessage m)) (callOf r bytes buffer)
 
 -- "Two message sequences that differ only in their seconds, each sent to a fresh register with equal buffers, receive equal answers, and entries equal but for the seconds."
 abbrev pub SecondsNeverMatter : Type 0
@@ -88,6 +93,9 @@ SecondsNeverMatter =
 
 pub record Demand2 : Type 0 where
   pub decided : AsTheRule
+  -- "a message brings its second, which is copied into entries": the rule gets the message's own numbers, and the call's own entry shows them
+  pub brought : (t i s : ℕ) → Brings t i s
+  pub own : EachOwnEntry
   -- "accepted if its guard holds in every outcome, rejected if in none, held if in some only", by the outcomes' numbers, and each exactly if;
   pub weighed : (e : Event) (progress : List RuleSlot) (s : State) → Exact panel e progress s
   -- what is held without being weighed, and the count of those that are weighed, 2 to the power u;
