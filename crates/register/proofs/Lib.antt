@@ -2,6 +2,8 @@ pub mod ReadAs
 pub mod Refusals
 pub mod Unchanged
 pub mod ReadBack
+pub mod Sequences
+pub mod InOrder
 pub mod Demand3
 pub mod OtherSecond
 pub mod Seconds

@@ -19,7 +19,7 @@ use Rattle.account.specs.declared.State.{State}
 use Rattle.account.specs.Panel.{guardOf, tableEffect, panel}
 use Rattle.account.specs.Places.{RuleSlot, RuleAccount, listsOf, accountOf}
 use Rattle.account.specs.Order.{orderOf}
-use Rattle.account.specs.Steps.{entryOf}
+use Rattle.account.specs.Steps.{entryOf, toldOf}
 use Rattle.layout.specs.Number.{AreBytes}
 use Rattle.message.specs.declared.Message.{Message}
 use Rattle.message.specs.declared.Reading.the-variants as Reading′
@@ -27,9 +27,9 @@ use Rattle.message.specs.Answers.{readOf}
 use Rattle.message.specs.Inverse.{ReadsWritten, WritesRead}
 use Rattle.entry.specs.Bytes.{bytesOfEntries}
 use Rattle.register.specs.declared.Register.{Register}
-use Rattle.register.specs.Register.{freshRegister, accountAt, ruleMessage}
+use Rattle.register.specs.Register.{freshRegister, ruleMessage, outlookIn}
 use Rattle.register.specs.Call.{Result, refusalOf, consumedOf, writtenOf, callOf}
-use Rattle.register.specs.Sequence.{Input, after, exchanges, seenBy}
+use Rattle.register.specs.Sequence.{Input, Exchange, after, exchanges, seenBy, EachWhole, Calls, Sight}
 use Rattle.register.specs.Seconds.{OtherSeconds, SameExchanges}
 use Rattle.register.specs.Refusals.{accountIn, standingAt, CallRefuses, OutlookTells}
 use Rattle.register.specs.Own.{EachOwnEntry, Brings}
@@ -109,8 +109,17 @@ pub record Demand2 : Type 0 where
   pub read-written : WritesRead
   pub seconds : SecondsNeverMatter
 
--- Demand 3: from a fresh register, after every sequence of messages, refused ones included, each of the sixteen accounts.
-abbrev pub Demand3 : Type 0
-Demand3 =
-    (inputs : List Input) → ByteStrings inputs → (i : ℕ) → i < 16
-    → rule.Demand3 panel (listsOf (accountAt (after freshRegister inputs) i)) (seenBy i (exchanges freshRegister inputs))
+-- Demand 3: from a fresh register, after every sequence of messages, refused ones included.
+pub record Demand3 : Type 0 where
+  -- each of the sixteen accounts, by what it has seen;
+  pub history :
+      (inputs : List Input) → ByteStrings inputs → (i : ℕ) → i < 16
+      → rule.Demand3 panel (listsOf (standingAt (after freshRegister inputs) i)) (seenBy i (exchanges freshRegister inputs))
+  -- what is seen: each call on the register that the one before left, by the account that it names; and of what it wrote every byte
+  pub calls : (r : Register) (x : Input) (xs : List Input) → Calls r x xs
+  pub sight : (i : ℕ) (xs : List Exchange) (x : Exchange) → Sight i xs x
+  pub whole : (inputs : List Input) → ByteStrings inputs → EachWhole (exchanges freshRegister inputs)
+  -- every account is in order, so that 5 is given neither by a call nor by the outcome question
+  pub order : (inputs : List Input) (i : ℕ) → i < 16 → orderOf (standingAt (after freshRegister inputs) i) ≡ true
+  pub never-five : (inputs : List Input) (bytes buffer : List ℕ) → refusalOf (callOf (after freshRegister inputs) bytes buffer .answer) ≡ some 5 → ⊥
+  pub never-asked-five : (inputs : List Input) (i n : ℕ) → toldOf (outlookIn (after freshRegister inputs) i n) .refusal ≡ some 5 → ⊥
