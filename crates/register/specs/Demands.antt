@@ -67,7 +67,7 @@ ByteStrings (x ∷ xs) = AreBytes (x .message) × ByteStrings xs
 
 -- Demand 1: every register, message and buffer.
 pub record Demand1 : Type 0 where
-  -- "A fresh register has 16 accounts, numbered 0 to 15, all new, nothing in progress or held", each with its 16 places blank
+  -- the register to begin with: sixteen new accounts, every place of each blank;
   pub fresh : freshRegister ≡ record { accounts = replicate 16 freshAccount }
   -- which calls are refused, and with which number;
   pub exactly : CallRefuses
@@ -93,7 +93,7 @@ SecondsNeverMatter =
 
 pub record Demand2 : Type 0 where
   pub decided : AsTheRule
-  -- "a message brings its second, which is copied into entries": the rule gets the message's own numbers, and the call's own entry shows them
+  -- the rule gets the message's own numbers, its second among them, and the call's own entry shows them
   pub brought : (t i s : ℕ) → Brings t i s
   pub own : EachOwnEntry
   -- "accepted if its guard holds in every outcome, rejected if in none, held if in some only", by the outcomes' numbers, and each exactly if;
@@ -109,7 +109,7 @@ pub record Demand2 : Type 0 where
   pub read-written : WritesRead
   pub seconds : SecondsNeverMatter
 
--- Demand 3: from a fresh register, after every sequence of messages, refused ones included.
+-- Demand 3: a fresh register after any sequence of calls, some of which may be refused.
 pub record Demand3 : Type 0 where
   -- each of the sixteen accounts, by what it has seen;
   pub history :

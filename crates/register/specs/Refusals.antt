@@ -1,4 +1,4 @@
--- When a call and the outcome question are refused (document 01, "Numbers given when a call is not taken"): each as ONE list of tests in their order, on the message's own bytes,
+-- When a call and the outcome question are refused (document 01, its table of numbers and their order): each as ONE list of tests, on the message's own bytes,
 -- the buffer's length and the places of the account that is named; and what the outcome question tells where no test holds.
 -- Assumes nothing.
 use Prim.Native.Nat.{ℕ, _+_, _*_, _^_}
@@ -80,7 +80,7 @@ callTests r bytes buffer =
 abbrev pub CallRefuses : Type 0
 CallRefuses = (r : Register) (bytes buffer : List ℕ) → refusalOf (callOf r bytes buffer .answer) ≡ firstOf (callTests r bytes buffer)
 
--- "Let u be the number of undecided events in progress."
+-- u: how many events in progress are undecided
 abbrev pub undecidedIn : Account → ℕ
 undecidedIn a = length (keep (λ (x : Slot). isUndecided (x .decision)) (progressIn a))
 

@@ -10,7 +10,7 @@ use Rattle.register.specs.Call.{callOf, refusalOf, consumedOf, writtenOf
 use Rattle.register.specs.Refusals.{accountIn, lengthBy, standingAt}
 
 module _ (r : Register) (bytes buffer : List ℕ) where
-  -- "A refusal gives its number from the list, consumes nothing, and leaves the register and the entry buffer unchanged"
+  -- a refusal has a number of the list, consumed and written length 0, and changes neither register nor buffer
   pub record Refusal (n : ℕ) : Type 0 where
     pub lowest : 1 ≤ n
     pub highest : n ≤ 11
@@ -19,7 +19,7 @@ module _ (r : Register) (bytes buffer : List ℕ) where
     pub register : callOf r bytes buffer .register ≡ r
     pub buffer′ : callOf r bytes buffer .buffer ≡ buffer
 
-  -- "a message taken changes only the account it names and the first part of the buffer"
+  -- what is taken changes one account and the beginning of the buffer, and nothing else
   pub record Taking : Type 0 where
     -- the consumed length is the kind's, and there are so many bytes
     pub consumed : consumedOf (callOf r bytes buffer .answer) ≡ lengthBy (getD bytes 0 0)
