@@ -1,10 +1,11 @@
 -- Demand 3 on bytes: each of the sixteen accounts is the account of lists that have been told as it sees the exchanges. A call keeps that, by cases on what was read,
 -- on the buffer's length and on the named account's answer; a sequence keeps it by induction.
 -- Assumes nothing.
-use Prim.Native.Nat.{ℕ, _+_, _-_, _<_, _≤_}
+use Prim.Native.Nat.{ℕ, _+_, _<_}
 use mathlib.Core.Path.{_≡_, refl, sym, _∙_, ap}
 use mathlib.Core.Bool.{Bool, true, false, cond, _&&_}
-use mathlib.Core.List.{List, [], _∷_, _++_, append-nil, append-assoc}
+use mathlib.Core.List.{List, [], _∷_, _++_, map, append-nil, append-assoc}
+use mathlib.Core.Option.{none}
 use native.Mathlib.Omega.{arith}
 use lib.Dec.{eqb, ltb, leb, lit≤}
 use lib.ListN.{length, take, drop, length-set, getD-replicate}
@@ -13,7 +14,6 @@ use borrow.Author.Tests.{eqb-true, eqb-false, leb-true}
 use Rattle.rule.specs.Rule as rule
 use Rattle.rule.specs.Call as rule-call
 use Rattle.rule.specs.History.{Seen, linesFrom}
-use Rattle.rule.specs.Demand as rule-demand
 use Rattle.rule.specs.Order as rule-order
 use Rattle.rule.specs.Says.{MessageSays, AccountSays}
 use Rattle.rule.proofs.Lists.{and-right}
@@ -23,13 +23,11 @@ use Rattle.rule.proofs.Says.{call-says}
 use Rattle.rule.proofs.Demand.{kept-demand3}
 use Rattle.account.specs.declared.Event.{Event}
 use Rattle.account.specs.declared.Event.the-variants.{Open, Withdraw, Deposit, Close}
-use Rattle.account.specs.declared.Entry.{Entry}
 use Rattle.account.specs.declared.State.{State}
 use Rattle.account.specs.declared.Account.{Account}
-use Rattle.account.specs.declared.Answer.the-variants as Step′
 use Rattle.account.specs.Panel.{limit, isNew, isOpened, guardOf, tableEffect, effectOf, panel}
 use Rattle.account.specs.Places.{RuleAccount, accountOf}
-use Rattle.account.specs.Steps.{entriesOf, calledBy, stepOf}
+use Rattle.account.specs.Steps.{RuleEntry, entryOf, entriesOf, calledBy, stepOf}
 use Rattle.account.proofs.Panel.{sound}
 use Rattle.account.proofs.Padded.{lists-account}
 use Rattle.account.proofs.Kept.{step-account}
@@ -49,12 +47,15 @@ use Rattle.register.specs.declared.Register.{Register}
 use Rattle.register.specs.declared.Answer.{Answer}
 use Rattle.register.specs.declared.Answer.the-variants.{Refused}
 use Rattle.register.specs.Register.{freshRegister, nowhere, accountAt, ruleMessage, stepBy}
-use Rattle.register.specs.Call.{Result, refusedWith, afterStep, afterMessage, afterReading, callOf}
+use Rattle.register.specs.Call.{Result, refusalOf, writtenOf, refusedWith, afterStep, afterMessage, afterReading, callOf}
 use Rattle.register.specs.Fits.{EventFits, CommitFits, StateFits, BalanceFits}
-use Rattle.register.specs.Sequence.{Input, after, exchanges, answerIn, seenOf, seenBy, entriesIn}
+use Rattle.register.specs.Sequence.{Input, after, exchanges, answerIn, seenOf, seenBy, entriesIn, Whole, EachWhole}
 use Rattle.register.specs.Demands.{ByteStrings, Demand3}
 use Rattle.entry.proofs.CallFits.{listed}
+use Rattle.register.proofs.ReadAs.{account-read}
 use Rattle.register.proofs.ReadBack.{entries-back}
+use Rattle.register.proofs.Sequences.{each-call, each-sight}
+use Rattle.register.proofs.InOrder.{always-in-order, never-five, never-asked-five}
 
 abbrev Fit : RuleAccount → Type 0
 Fit a = AccountSays panel EventFits CommitFits StateFits BalanceFits a
@@ -91,6 +92,10 @@ message-fits (Request h e) w = (w .transaction, w .second, w .amount)
 message-fits (Commit h) w = (w .transaction, w .second)
 message-fits (Abort h) w = tt
 
+-- these bytes are those of the entries that they hold, under that account
+abbrev WholeUnder : ℕ → List ℕ → Type 0
+WholeUnder i bytes = bytes ≡ bytesOfEntries i (map entryOf (entriesIn bytes))
+
 -- One call on the account that it names.
 module _ (r : Register) (buffer : List ℕ) (m : Message) (consumed : ℕ) (w : Writable m) (seen : List (Seen ℕ Event ℕ))
     (sixteen : length (r .accounts) ≡ 16) (k : Keeps (accountAt r (headingOf m .account)) seen) where
@@ -112,11 +117,16 @@ module _ (r : Register) (buffer : List ℕ) (m : Message) (consumed : ℕ) (w : 
       (length (ρ .register .accounts) ≡ 16)
       × ((i : ℕ) → (i ≡ j → ⊥) → accountAt (ρ .register) i ≡ accountAt r i)
       × Keeps (accountAt (ρ .register) j) (seen ++ (record { message = ruleMessage m; answer = answerIn (ρ .answer) (ρ .buffer) } ∷ []))
+      × (refusalOf (ρ .answer) ≡ none → WholeUnder j (take (writtenOf (ρ .answer)) (ρ .buffer)))
 
   kept-refused : (n : ℕ) → Kept (refusedWith r buffer n)
   unfolding Kept
-  kept-refused n =
-      (sixteen, λ i other. refl, record { lists = k .lists; same = k .same; told = refusal-told panel (k .lists) seen (ruleMessage m) n (k .told); fit = k .fit })
+  kept-refused n = (
+    sixteen,
+    λ i other. refl,
+    record { lists = k .lists; same = k .same; told = refusal-told panel (k .lists) seen (ruleMessage m) n (k .told); fit = k .fit },
+    λ h. let z : _≡_ {A = ℕ} 0 1 = cc in absurd (omega arith),
+  )
 
   kept-answer : (answer : rule-call.Answer ℕ Event ℕ) → called .answer ≡ answer → Kept (result answer)
   unfolding Kept
@@ -124,10 +134,9 @@ module _ (r : Register) (buffer : List ℕ) (m : Message) (consumed : ℕ) (w : 
   kept-answer (rule-call.taken xs) q =
       let said = call-says panel EventFits CommitFits StateFits BalanceFits balance-kept (λ s h. h) (k .lists) (ruleMessage m) (k .fit) (message-fits m w) in
       let bytes = bytesOfEntries j (listOf (entriesOf xs)) in
-      let back : entriesIn (take (length bytes) (laidOver bytes buffer)) ≡ xs =
-      ap entriesIn (take-at bytes (drop (length bytes) buffer) (length bytes) refl) ∙ ap (λ (l : List Entry). entriesIn (bytesOfEntries j l)) (listed xs)
-      ∙ entries-back j xs (w .account) (rw q at (said .1))
-      in (
+      let first : take (length bytes) (laidOver bytes buffer) ≡ bytesOfEntries j (map entryOf xs) =
+      take-at bytes (drop (length bytes) buffer) (length bytes) refl ∙ ap (bytesOfEntries j) (listed xs) in
+      let back : entriesIn (take (length bytes) (laidOver bytes buffer)) ≡ xs = ap entriesIn first ∙ entries-back j xs (w .account) (rw q at (said .1)) in (
         length-set (r .accounts) j (accountOf (called .account)) ∙ sixteen,
         λ i other. getD-set-other (r .accounts) j i (accountOf (called .account)) nowhere other,
         record {
@@ -137,6 +146,7 @@ module _ (r : Register) (buffer : List ℕ) (m : Message) (consumed : ℕ) (w : 
               rw (back, ← q) (call-told panel (k .lists) seen (ruleMessage m) (k .told));
           fit = said .0;
         },
+        λ h. first ∙ ap (λ (l : List RuleEntry). bytesOfEntries j (map entryOf l)) (sym back),
       )
 
   kept-message : Kept (afterMessage r buffer m consumed)
@@ -156,13 +166,16 @@ Sees r seen = (length (r .accounts) ≡ 16) × ((i : ℕ) → i < 16 → Keeps (
 
 call-kept : (r : Register) (bytes buffer : List ℕ) (seen : ℕ → List (Seen ℕ Event ℕ)) → AreBytes bytes → Sees r seen
     → Sees (callOf r bytes buffer .register) (λ (i : ℕ). seen i ++ seenOf i (callOf r bytes buffer .answer) (callOf r bytes buffer .buffer) (readOf bytes))
+    × Whole (record { message = bytes; answer = callOf r bytes buffer .answer; buffer = callOf r bytes buffer .buffer })
 unfolding callOf Sees Kept
 call-kept r bytes buffer seen b h = by (readOf bytes) refl
   where
     by : (x : Reading) → readOf bytes ≡ x
         → Sees (afterReading r buffer x .register) (λ (i : ℕ). seen i ++ seenOf i (afterReading r buffer x .answer) (afterReading r buffer x .buffer) x)
-    by (Reading′.Refused n) q = (h .0, λ i l. rw (append-nil (seen i)) (h .1 i l))
-    by (Reading′.Message m consumed) q = (kept .0, λ i l. named i l (eqb (headingOf m .account) i) refl)
+        × Whole (record { message = bytes; answer = afterReading r buffer x .answer; buffer = afterReading r buffer x .buffer })
+    by (Reading′.Refused n) q = ((h .0, λ i l. rw (append-nil (seen i)) (h .1 i l)), λ e. let z : _≡_ {A = ℕ} 0 1 = cc in absurd (omega arith))
+    by (Reading′.Message m consumed) q =
+        ((kept .0, λ i l. named i l (eqb (headingOf m .account) i) refl), λ e. rw (← account-read bytes m consumed q) (kept .3 e))
       where
         w : Writable m
         w = writes-read bytes m consumed b q .writable
@@ -179,14 +192,17 @@ call-kept r bytes buffer seen b h = by (readOf bytes) refl
 
 -- A sequence of calls.
 calls-kept : (inputs : List Input) (r : Register) (seen : ℕ → List (Seen ℕ Event ℕ)) → ByteStrings inputs → Sees r seen
-    → Sees (after r inputs) (λ (i : ℕ). seen i ++ seenBy i (exchanges r inputs))
+    → Sees (after r inputs) (λ (i : ℕ). seen i ++ seenBy i (exchanges r inputs)) × EachWhole (exchanges r inputs)
 unfolding Sees
-calls-kept [] r seen b h = (h .0, λ i l. rw (append-nil (seen i)) (h .1 i l))
+calls-kept [] r seen b h = ((h .0, λ i l. rw (append-nil (seen i)) (h .1 i l)), tt)
 calls-kept (x ∷ inputs) r seen b h =
     let result = callOf r (x .message) (x .buffer) in
     let one : ℕ → List (Seen ℕ Event ℕ) = λ i. seenOf i (result .answer) (result .buffer) (readOf (x .message)) in
-    let k = calls-kept inputs (result .register) (λ (i : ℕ). seen i ++ one i) (b .1) (call-kept r (x .message) (x .buffer) seen (b .0) h) in
-    (k .0, λ i l. rw (append-assoc (seen i) (one i) (seenBy i (exchanges (result .register) inputs))) at (k .1 i l))
+    let first = call-kept r (x .message) (x .buffer) seen (b .0) h in
+    let k = calls-kept inputs (result .register) (λ (i : ℕ). seen i ++ one i) (b .1) (first .0) in (
+      (k .0 .0, λ i l. rw (append-assoc (seen i) (one i) (seenBy i (exchanges (result .register) inputs))) at (k .0 .1 i l)),
+      (first .1, k .1),
+    )
 
 -- a fresh register
 fresh-kept : Sees freshRegister (λ (i : ℕ). [])
@@ -205,6 +221,16 @@ fresh-kept = (
 -- Demand 3, on bytes
 pub demand3 : Demand3
 unfolding Sees
-demand3 inputs b i l =
-    let k = calls-kept inputs freshRegister (λ (i : ℕ). []) b fresh-kept .1 i l in
-    rw (k .same, lists-account (k .lists)) (kept-demand3 panel (lit≤ tt) (k .lists) (seenBy i (exchanges freshRegister inputs)) (k .told .rest) (k .told .owned))
+demand3 =
+    record {
+      history =
+          λ inputs b i l.
+          let k = calls-kept inputs freshRegister (λ (i : ℕ). []) b fresh-kept .0 .1 i l in
+          rw (k .same, lists-account (k .lists)) (kept-demand3 panel (lit≤ tt) (k .lists) (seenBy i (exchanges freshRegister inputs)) (k .told .rest) (k .told .owned));
+      calls = each-call;
+      sight = each-sight;
+      whole = λ inputs b. calls-kept inputs freshRegister (λ (i : ℕ). []) b fresh-kept .1;
+      order = λ inputs i l. always-in-order inputs i;
+      never-five = never-five;
+      never-asked-five = never-asked-five;
+    }

@@ -1,82 +1,37 @@
 -- The account that a message names is one of the sixteen, and a call changes that account alone: it is what the account makes of the message, put in its place.
 -- Assumes nothing.
-use Prim.Native.Nat.{ℕ, suc, _<_, _≤_}
+use Prim.Native.Nat.{ℕ, suc, _<_}
 use mathlib.Core.Path.{_≡_, refl, sym, _∙_, ap}
 use mathlib.Core.Bool.{Bool, true, false, cond}
 use mathlib.Core.List.{List}
-use mathlib.Core.Option.{Option, none, some}
 use native.Mathlib.Omega.{arith}
-use lib.Dec.{eqb, ltb}
-use lib.ListN.{length, getD, replicate, getD-replicate, length-replicate}
+use lib.Dec.{ltb}
+use lib.ListN.{length, replicate, getD-replicate, length-replicate}
 use lib.Seq.{getD-set-same, set-getD}
-use borrow.Author.Tests.{ltb-false}
 use Rattle.account.specs.declared.Account.{Account}
 use Rattle.account.specs.declared.Answer.{Answer as StepAnswer}
 use Rattle.account.specs.declared.Answer.the-variants as Step′
 use Rattle.account.specs.declared.Entries.{Entries}
-use Rattle.layout.specs.Number.{numberAt}
-use Rattle.layout.specs.Fields.{Row, rowOf, widthsOf, numbersAt, lastAccount}
-use Rattle.layout.specs.Events.{eventOf}
-use Rattle.message.specs.declared.Heading.{Heading}
 use Rattle.message.specs.declared.Message.{Message}
-use Rattle.message.specs.declared.Message.the-variants.{Request, Commit, Abort}
 use Rattle.message.specs.declared.Reading.{Reading}
 use Rattle.message.specs.declared.Reading.the-variants as Reading′
-use Rattle.message.specs.Bytes.{messages, headingOf, messageOf, messageBy}
-use Rattle.message.specs.Answers.{readNumbers, readKind, readOf}
+use Rattle.message.specs.Bytes.{headingOf}
+use Rattle.message.specs.Answers.{readOf}
 use Rattle.entry.specs.Answers.{longestCall}
 use Rattle.register.specs.declared.Register.{Register}
 use Rattle.register.specs.declared.Answer.{Answer}
 use Rattle.register.specs.Register.{nowhere, accountAt, withAccount, stepBy}
 use Rattle.register.specs.Call.{Result, refusedWith, afterStep, afterMessage, afterReading, callOf}
 use Rattle.register.specs.Named.{placeOf, standing, sentTo, accountAfter}
+use Rattle.register.proofs.ReadAs.{read-as, account-read}
 
--- the heading of a message is the one that it was made with
-heading-kept : (kind amount : ℕ) (h : Heading) → headingOf (messageBy kind h amount) ≡ h
-unfolding messageBy
-heading-kept kind amount h = go (eqb kind 5) (eqb kind 6)
-  where
-    go : (b c : Bool) → headingOf (cond b (Commit h) (cond c (Abort h) (Request h (eventOf kind amount)))) ≡ h
-    go true c = refl
-    go false true = refl
-    go false false = refl
-
--- "account above 15" is refused, so a message that was read names one of the sixteen
-numbers-account : (whole : ℕ) (numbers : List ℕ) (m : Message) (consumed : ℕ) → readNumbers whole numbers ≡ Reading′.Message m consumed → headingOf m .account ≤ lastAccount
-numbers-account whole numbers m consumed h = go (ltb lastAccount (getD numbers 2 0)) refl h
-  where
-    heading : Heading
-    heading = record { transaction = getD numbers 1 0; account = getD numbers 2 0; second = getD numbers 3 0 }
-
-    go : (b : Bool) → ltb lastAccount (getD numbers 2 0) ≡ b → cond b (Reading′.Refused 3) (Reading′.Message (messageOf numbers) whole) ≡ Reading′.Message m consumed
-        → headingOf m .account ≤ lastAccount
-    go true q k = let z : _≡_ {A = ℕ} 0 1 = cc in absurd (omega arith)
-    go false q k =
-        let same : messageOf numbers ≡ m = cc in
-        rw (← same, heading-kept (getD numbers 0 0) (getD numbers 4 0) heading) (ltb-false lastAccount (getD numbers 2 0) q)
-
-kind-account : (found : Option Row) (bytes : List ℕ) (m : Message) (consumed : ℕ) → readKind found bytes ≡ Reading′.Message m consumed → headingOf m .account ≤ lastAccount
-kind-account none bytes m consumed h = let z : _≡_ {A = ℕ} 0 1 = cc in absurd (omega arith)
-kind-account (some r) bytes m consumed h = go (ltb (length bytes) (r .whole)) h
-  where
-    go : (b : Bool) → cond b (Reading′.Refused 1) (readNumbers (r .whole) (numbersAt (widthsOf (some r)) bytes 0)) ≡ Reading′.Message m consumed → headingOf m .account ≤ lastAccount
-    go true k = let z : _≡_ {A = ℕ} 0 1 = cc in absurd (omega arith)
-    go false k = numbers-account (r .whole) (numbersAt (widthsOf (some r)) bytes 0) m consumed k
-
-read-account : (bytes : List ℕ) (m : Message) (consumed : ℕ) → readOf bytes ≡ Reading′.Message m consumed → headingOf m .account ≤ lastAccount
-unfolding readOf
-read-account bytes m consumed h = go (eqb (length bytes) 0) h
-  where
-    go : (b : Bool) → cond b (Reading′.Refused 1) (readKind (rowOf messages (numberAt bytes 0 1)) bytes) ≡ Reading′.Message m consumed → headingOf m .account ≤ lastAccount
-    go true k = let z : _≡_ {A = ℕ} 0 1 = cc in absurd (omega arith)
-    go false k = kind-account (rowOf messages (numberAt bytes 0 1)) bytes m consumed k
-
+-- a message that was read names one of the sixteen, and 0 stands for none
 pub place-low : (bytes : List ℕ) (x : Reading) (i : ℕ) → x ≡ readOf bytes → i ≡ placeOf x → i < 16
 place-low bytes x i q e = go (readOf bytes) refl (e ∙ ap placeOf q)
   where
     go : (y : Reading) → readOf bytes ≡ y → i ≡ placeOf y → i < 16
     go (Reading′.Refused n) p h = omega arith
-    go (Reading′.Message m consumed) p h = omega (arith, read-account bytes m consumed p)
+    go (Reading′.Message m consumed) p h = omega (arith, account-read bytes m consumed p, read-as bytes m consumed p .account)
 
 -- the account that stands at a number, before and after it is changed
 pub stands : (i : ℕ) (a : Account) → accountAt (standing i a) i ≡ a

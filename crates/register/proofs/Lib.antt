@@ -1,8 +1,15 @@
+pub mod ReadAs
+pub mod Refusals
 pub mod Unchanged
 pub mod ReadBack
+pub mod Sequences
+pub mod InOrder
 pub mod Demand3
 pub mod OtherSecond
 pub mod Seconds
+pub mod AsTheRule
+pub mod Took
+pub mod Own
 pub mod Demand2
 pub mod Demands
 pub mod Accounts

@@ -3,43 +3,62 @@
 use Prim.Native.Nat.{ℕ, _<_, _≤_}
 use mathlib.Core.Path.{_≡_}
 use mathlib.Core.Bool.{true}
-use mathlib.Core.List.{List, [], _∷_, map}
-use lib.ListN.{length}
+use mathlib.Core.List.{List, [], _∷_, _++_, map}
+use mathlib.Core.Option.{Option, none, some}
+use lib.ListN.{length, drop, set, replicate}
 use Rattle.rule.specs.Call.{Answer, refused, taken, Called, call}
 use Rattle.rule.specs.Exact.{Numbered, Exact, Decided}
 use Rattle.rule.specs.Demand as rule
 use Rattle.account.specs.declared.Event.{Event}
+use Rattle.account.specs.declared.Event.the-variants.{Open}
+use Rattle.account.specs.declared.Life.the-variants.{New}
+use Rattle.account.specs.declared.Decision.the-variants.{Undecided}
+use Rattle.account.specs.declared.Slot.{Slot}
+use Rattle.account.specs.declared.Account.{Account}
 use Rattle.account.specs.declared.State.{State}
 use Rattle.account.specs.Panel.{guardOf, tableEffect, panel}
 use Rattle.account.specs.Places.{RuleSlot, RuleAccount, listsOf, accountOf}
 use Rattle.account.specs.Order.{orderOf}
-use Rattle.account.specs.Steps.{entryOf}
+use Rattle.account.specs.Steps.{entryOf, toldOf}
 use Rattle.layout.specs.Number.{AreBytes}
-use Rattle.layout.specs.Answers.{laidOver}
 use Rattle.message.specs.declared.Message.{Message}
 use Rattle.message.specs.declared.Reading.the-variants as Reading′
-use Rattle.message.specs.Bytes.{headingOf}
 use Rattle.message.specs.Answers.{readOf}
 use Rattle.message.specs.Inverse.{ReadsWritten, WritesRead}
 use Rattle.entry.specs.Bytes.{bytesOfEntries}
-use Rattle.entry.specs.Answers.{longestCall}
 use Rattle.register.specs.declared.Register.{Register}
-use Rattle.register.specs.declared.Answer.the-variants.{Taken}
-use Rattle.register.specs.Register.{freshRegister, accountAt, withAccount, ruleMessage}
-use Rattle.register.specs.Call.{Result, refusedWith, callOf}
-use Rattle.register.specs.Sequence.{Input, after, exchanges, seenBy}
+use Rattle.register.specs.Register.{freshRegister, ruleMessage, outlookIn}
+use Rattle.register.specs.Call.{Result, refusalOf, consumedOf, writtenOf, callOf}
+use Rattle.register.specs.Sequence.{Input, Exchange, after, exchanges, seenBy, EachWhole, Calls, Sight}
 use Rattle.register.specs.Seconds.{OtherSeconds, SameExchanges}
-use Rattle.register.specs.Unchanged.{Checked}
+use Rattle.register.specs.Refusals.{accountIn, standingAt, CallRefuses, OutlookTells}
+use Rattle.register.specs.Own.{EachOwnEntry, Brings}
+use Rattle.register.specs.Unchanged.{Refusal, Taking}
+
+-- what a call gives, by what document 01 says of its answer
+pub record Gives (result : Result) (refusal : Option ℕ) (consumed written : ℕ) (register : Register) (buffer : List ℕ) : Type 0 where
+  pub refusal′ : refusalOf (result .answer) ≡ refusal
+  pub consumed′ : consumedOf (result .answer) ≡ consumed
+  pub written′ : writtenOf (result .answer) ≡ written
+  pub register′ : result .register ≡ register
+  pub buffer′ : result .buffer ≡ buffer
 
 -- the rule's answer in bytes: a refusal changes nothing; else the account that follows stands in its place, and its entries at the beginning of the buffer
-abbrev pub ruledBy : Register → (buffer : List ℕ) (account consumed : ℕ) → RuleAccount → Answer ℕ Event ℕ → Result
-ruledBy r buffer i consumed next (refused n) = refusedWith r buffer n
-ruledBy r buffer i consumed next (taken xs) =
+abbrev pub RuledBy : Register → (buffer : List ℕ) (account consumed : ℕ) → RuleAccount → Answer ℕ Event ℕ → Result → Type 0
+RuledBy r buffer i consumed next (refused n) result = Gives result (some n) 0 0 r buffer
+RuledBy r buffer i consumed next (taken xs) result =
     let bytes = bytesOfEntries i (map entryOf xs) in
-    record { answer = Taken consumed (length bytes); register = withAccount r i (accountOf next); buffer = laidOver bytes buffer }
+    Gives result none consumed (length bytes) (record { accounts = set (r .accounts) i (accountOf next) }) (bytes ++ drop (length bytes) buffer)
 
-abbrev pub ruled : Register → (buffer : List ℕ) (account consumed : ℕ) → Called ℕ State Event ℕ → Result
-ruled r buffer i consumed called = ruledBy r buffer i consumed (called .account) (called .answer)
+abbrev pub Ruled : Register → (buffer : List ℕ) (account consumed : ℕ) → Called ℕ State Event ℕ → Result → Type 0
+Ruled r buffer i consumed called result = RuledBy r buffer i consumed (called .account) (called .answer) result
+
+-- a new account, and its places
+abbrev pub blankPlaces : List Slot
+blankPlaces = replicate 8 (record { transaction = 0; second = 0; event = Open 0; decision = Undecided })
+
+abbrev pub freshAccount : Account
+freshAccount = record { state = record { life = New; balance = 0 }; progress = blankPlaces; progressing = 0; held = blankPlaces; holding = 0 }
 
 -- every message of these is a string of bytes
 abbrev pub ByteStrings : List Input → Type 0
@@ -47,16 +66,24 @@ ByteStrings [] = Unit {0}
 ByteStrings (x ∷ xs) = AreBytes (x .message) × ByteStrings xs
 
 -- Demand 1: every register, message and buffer.
-abbrev pub Demand1 : Type 0
-Demand1 = (r : Register) (bytes buffer : List ℕ) → Checked r bytes buffer
+pub record Demand1 : Type 0 where
+  -- the register to begin with: sixteen new accounts, every place of each blank;
+  pub fresh : freshRegister ≡ record { accounts = replicate 16 freshAccount }
+  -- which calls are refused, and with which number;
+  pub exactly : CallRefuses
+  -- what a refusal leaves, and what a message that is taken does;
+  pub refused : (r : Register) (bytes buffer : List ℕ) (n : ℕ) → refusalOf (callOf r bytes buffer .answer) ≡ some n → Refusal r bytes buffer n
+  pub taken : (r : Register) (bytes buffer : List ℕ) → refusalOf (callOf r bytes buffer .answer) ≡ none → Taking r bytes buffer
+  -- and what the outcome question answers
+  pub asked : OutlookTells
 
 -- Demand 2. Each request is decided as the rule says: of a message that was read, with room for its entries, to an account in order, the account that follows and the answer
 -- are those of the rule's call on the account's lists.
 abbrev pub AsTheRule : Type 0
 AsTheRule =
-    (r : Register) (bytes buffer : List ℕ) (m : Message) (consumed : ℕ) → readOf bytes ≡ Reading′.Message m consumed → longestCall ≤ length buffer
-    → orderOf (accountAt r (headingOf m .account)) ≡ true
-    → callOf r bytes buffer ≡ ruled r buffer (headingOf m .account) consumed (call panel (listsOf (accountAt r (headingOf m .account))) (ruleMessage m))
+    (r : Register) (bytes buffer : List ℕ) (m : Message) (consumed : ℕ) → readOf bytes ≡ Reading′.Message m consumed → 315 ≤ length buffer
+    → orderOf (standingAt r (accountIn bytes)) ≡ true
+    → Ruled r buffer (accountIn bytes) consumed (call panel (listsOf (standingAt r (accountIn bytes))) (ruleMessage m)) (callOf r bytes buffer)
 
 -- "Two message sequences that differ only in their seconds, each sent to a fresh register with equal buffers, receive equal answers, and entries equal but for the seconds."
 abbrev pub SecondsNeverMatter : Type 0
@@ -66,6 +93,9 @@ SecondsNeverMatter =
 
 pub record Demand2 : Type 0 where
   pub decided : AsTheRule
+  -- the rule gets the message's own numbers, its second among them, and the call's own entry shows them
+  pub brought : (t i s : ℕ) → Brings t i s
+  pub own : EachOwnEntry
   -- "accepted if its guard holds in every outcome, rejected if in none, held if in some only", by the outcomes' numbers, and each exactly if;
   pub weighed : (e : Event) (progress : List RuleSlot) (s : State) → Exact panel e progress s
   -- what is held without being weighed, and the count of those that are weighed, 2 to the power u;
@@ -79,8 +109,17 @@ pub record Demand2 : Type 0 where
   pub read-written : WritesRead
   pub seconds : SecondsNeverMatter
 
--- Demand 3: from a fresh register, after every sequence of messages, refused ones included, each of the sixteen accounts.
-abbrev pub Demand3 : Type 0
-Demand3 =
-    (inputs : List Input) → ByteStrings inputs → (i : ℕ) → i < 16
-    → rule.Demand3 panel (listsOf (accountAt (after freshRegister inputs) i)) (seenBy i (exchanges freshRegister inputs))
+-- Demand 3: a fresh register after any sequence of calls, some of which may be refused.
+pub record Demand3 : Type 0 where
+  -- each of the sixteen accounts, by what it has seen;
+  pub history :
+      (inputs : List Input) → ByteStrings inputs → (i : ℕ) → i < 16
+      → rule.Demand3 panel (listsOf (standingAt (after freshRegister inputs) i)) (seenBy i (exchanges freshRegister inputs))
+  -- what is seen: each call on the register that the one before left, by the account that it names; and of what it wrote every byte
+  pub calls : (r : Register) (x : Input) (xs : List Input) → Calls r x xs
+  pub sight : (i : ℕ) (xs : List Exchange) (x : Exchange) → Sight i xs x
+  pub whole : (inputs : List Input) → ByteStrings inputs → EachWhole (exchanges freshRegister inputs)
+  -- every account is in order, so that 5 is given neither by a call nor by the outcome question
+  pub order : (inputs : List Input) (i : ℕ) → i < 16 → orderOf (standingAt (after freshRegister inputs) i) ≡ true
+  pub never-five : (inputs : List Input) (bytes buffer : List ℕ) → refusalOf (callOf (after freshRegister inputs) bytes buffer .answer) ≡ some 5 → ⊥
+  pub never-asked-five : (inputs : List Input) (i n : ℕ) → toldOf (outlookIn (after freshRegister inputs) i n) .refusal ≡ some 5 → ⊥

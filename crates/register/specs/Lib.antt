@@ -1,7 +1,9 @@
 pub mod Register
 pub mod Call
 pub mod Named
+pub mod Refusals
 pub mod Unchanged
+pub mod Own
 pub mod Sequence
 pub mod Fits
 pub mod Seconds

@@ -1,8 +1,10 @@
 -- Sequences of calls, and what can be seen of them in bytes: the messages sent, the answers, and the entries in the buffers.
 -- Assumes nothing.
 use Prim.Native.Nat.{ℕ, zero, suc}
+use mathlib.Core.Path.{_≡_}
 use mathlib.Core.Bool.{cond}
-use mathlib.Core.List.{List, [], _∷_, _++_}
+use mathlib.Core.List.{List, [], _∷_, _++_, map}
+use mathlib.Core.Option.{none, some}
 use lib.Dec.{eqb}
 use lib.ListN.{length, take, drop}
 use Rattle.rule.specs.Rule as rule
@@ -12,7 +14,7 @@ use Rattle.account.specs.declared.Event.{Event}
 use Rattle.account.specs.declared.Told.{Told}
 use Rattle.account.specs.declared.Told.the-variants.{Accepted, Rejected, Held, Noted, Applied, Dropped}
 use Rattle.account.specs.declared.Entry.{Entry}
-use Rattle.account.specs.Steps.{RuleEntry}
+use Rattle.account.specs.Steps.{RuleEntry, entryOf}
 use Rattle.message.specs.declared.Message.{Message}
 use Rattle.message.specs.declared.Reading.{Reading}
 use Rattle.message.specs.declared.Reading.the-variants as Reading′
@@ -20,12 +22,14 @@ use Rattle.message.specs.Bytes.{headingOf}
 use Rattle.message.specs.Answers as message
 use Rattle.entry.specs.declared.EntryReading.{EntryReading}
 use Rattle.entry.specs.declared.EntryReading.the-variants.{Found, Nothing}
+use Rattle.entry.specs.Bytes.{bytesOfEntries}
 use Rattle.entry.specs.Answers as entry
 use Rattle.register.specs.declared.Register.{Register}
 use Rattle.register.specs.declared.Answer.{Answer}
 use Rattle.register.specs.declared.Answer.the-variants.{Refused, Taken}
 use Rattle.register.specs.Register.{ruleMessage}
-use Rattle.register.specs.Call.{callOf}
+use Rattle.register.specs.Call.{refusalOf, writtenOf, callOf}
+use Rattle.register.specs.Refusals.{accountIn}
 
 -- what is handed to a call: the message bytes and the entry buffer
 pub record Input : Type 0 where
@@ -91,3 +95,36 @@ seenOf i answer buffer (Reading′.Message m consumed) =
 abbrev pub seenBy : ℕ → List Exchange → List (rule-history.Seen ℕ Event ℕ)
 seenBy i [] = []
 seenBy i (x ∷ xs) = seenOf i (x .answer) (x .buffer) (message.readOf (x .message)) ++ seenBy i xs
+
+-- the bytes that an exchange wrote
+abbrev pub writtenIn : Exchange → List ℕ
+writtenIn x = take (writtenOf (x .answer)) (x .buffer)
+
+-- they are all of the entries' bytes and nothing else: the entries read back from them, each under the account that the message names, have just these bytes
+abbrev pub Whole : Exchange → Type 0
+Whole x = refusalOf (x .answer) ≡ none → writtenIn x ≡ bytesOfEntries (accountIn (x .message)) (map entryOf (entriesIn (writtenIn x)))
+
+abbrev pub EachWhole : List Exchange → Type 0
+EachWhole [] = Unit {0}
+EachWhole (x ∷ xs) = Whole x × EachWhole xs
+
+-- a sequence is its calls, one after the other, each on the register that the one before left
+pub record Calls (r : Register) (x : Input) (xs : List Input) : Type 0 where
+  pub none-after : after r [] ≡ r
+  pub last-after : after r (xs ++ (x ∷ [])) ≡ callOf (after r xs) (x .message) (x .buffer) .register
+  pub none-seen : exchanges r [] ≡ []
+  pub last-seen :
+      let called = callOf (after r xs) (x .message) (x .buffer) in
+      exchanges r (xs ++ (x ∷ [])) ≡ exchanges r xs ++ (record { message = x .message; answer = called .answer; buffer = called .buffer } ∷ [])
+
+-- an account sees the exchanges whose messages name it, in their order, and no other
+pub record Sight (i : ℕ) (xs : List Exchange) (x : Exchange) : Type 0 where
+  pub nothing : seenBy i [] ≡ []
+  pub unread : (n : ℕ) → message.readOf (x .message) ≡ Reading′.Refused n → seenBy i (xs ++ (x ∷ [])) ≡ seenBy i xs
+  pub another : (accountIn (x .message) ≡ i → ⊥) → seenBy i (xs ++ (x ∷ [])) ≡ seenBy i xs
+  pub refused :
+      (m : Message) (consumed n : ℕ) → message.readOf (x .message) ≡ Reading′.Message m consumed → accountIn (x .message) ≡ i → refusalOf (x .answer) ≡ some n
+      → seenBy i (xs ++ (x ∷ [])) ≡ seenBy i xs ++ (record { message = ruleMessage m; answer = rule-call.refused n } ∷ [])
+  pub taken :
+      (m : Message) (consumed : ℕ) → message.readOf (x .message) ≡ Reading′.Message m consumed → accountIn (x .message) ≡ i → refusalOf (x .answer) ≡ none
+      → seenBy i (xs ++ (x ∷ [])) ≡ seenBy i xs ++ (record { message = ruleMessage m; answer = rule-call.taken (entriesIn (writtenIn x)) } ∷ [])
