@@ -12,3 +12,4 @@ pub mod Moved
 pub mod Underway
 pub mod WholeRuns
 pub mod Alike
+pub mod RunCalls

@@ -4,6 +4,8 @@ pub mod Named
 pub mod Unchanged
 pub mod Sequence
 pub mod Fits
+pub mod Whole
 pub mod Seconds
 pub mod Demands
 pub mod Run
+pub mod RunCalls
