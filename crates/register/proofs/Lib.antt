@@ -1,6 +1,7 @@
 pub mod Unchanged
 pub mod ReadBack
 pub mod Demand3
+pub mod Whole
 pub mod OtherSecond
 pub mod Seconds
 pub mod Demand2
@@ -13,3 +14,4 @@ pub mod Underway
 pub mod WholeRuns
 pub mod Alike
 pub mod RunCalls
+pub mod RunSeconds

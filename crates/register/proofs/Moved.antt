@@ -2,17 +2,16 @@
 -- A refusal is 1 or 2, or 3 at least behind such a message.
 -- Assumes nothing.
 use Prim.Native.Nat.{ℕ, _≤_, _<_}
-use mathlib.Core.Path.{_≡_, refl, sym, _∙_, ap, subst}
+use mathlib.Core.Path.{_≡_, refl, sym, ap}
 use mathlib.Core.Logic.{_⊎_, inl, inr, ⊎-elim}
 use mathlib.Core.Bool.{Bool, true, false, cond, true≢false}
 use mathlib.Core.List.{List}
 use mathlib.Core.Option.{Option, none, some}
-use native.Mathlib.Nat.{zero-add}
 use native.Mathlib.Omega.{arith}
 use lib.Dec.{eqb, leb, ltb}
 use lib.ListN.{length, drop, getD, length-append, length-drop}
 use lib.Seq.{drop-append-seam}
-use borrow.Author.Tests.{ltb-false, leb-true, leb-false}
+use borrow.Author.Tests.{ltb-false, leb-false}
 use Rattle.rule.specs.Rule as rule
 use Rattle.rule.specs.Call.{refusal}
 use Rattle.rule.proofs.Refusals.{request-refused, commit-refused, abort-refused}
@@ -27,13 +26,11 @@ use Rattle.account.specs.Steps.{stepOf}
 use Rattle.account.proofs.Refused.{Because, disorder, rule-says, step-refused}
 use Rattle.layout.specs.Number.{numberAt}
 use Rattle.layout.specs.Fields.{Row, rowOf, wholeOf, widthsOf, numbersAt, lastAccount}
-use Rattle.layout.proofs.Tables.{unknown}
 use Rattle.message.specs.declared.Message.{Message}
 use Rattle.message.specs.declared.Reading.{Reading}
 use Rattle.message.specs.declared.Reading.the-variants as Reading′
 use Rattle.message.specs.Bytes.{messages, headingOf, messageOf}
 use Rattle.message.specs.Answers.{readNumbers, readKind, readOf}
-use Rattle.message.proofs.Lengths.{with-amount as kind-with-amount, without-amount as kind-without-amount, below-kinds, above-kinds}
 use Rattle.entry.specs.Bytes.{bytesOfEntries, listOf}
 use Rattle.entry.specs.Answers.{longestCall}
 use Rattle.register.specs.declared.Register.{Register}
@@ -42,9 +39,10 @@ use Rattle.register.specs.declared.Answer.the-variants.{Refused, Taken}
 use Rattle.register.specs.declared.runs.Passed.{Passed}
 use Rattle.register.specs.Register.{accountAt, ruleMessage, stepBy}
 use Rattle.register.specs.Call.{Result, refusedWith, afterStep, afterMessage, afterReading, callOf}
-use Rattle.register.specs.Whole.{Whole, with-amount, without-amount}
+use Rattle.register.specs.Whole.{Whole}
 use Rattle.register.specs.Run.{lengthAt, passedOf}
 use Rattle.entry.proofs.CallFits.{calls-fit}
+use Rattle.register.proofs.Whole.{some-bytes, row-length}
 
 -- the message that the bytes begin with stands there whole
 pub record Stands (bytes : List ℕ) : Type 0 where
@@ -64,44 +62,6 @@ Told bytes (Reading′.Message m consumed) = (consumed ≡ lengthAt bytes) × St
 abbrev pub Tells : (bytes : List ℕ) → Answer → Type 0
 Tells bytes (Refused n) = Refusable bytes n
 Tells bytes (Taken consumed written) = (consumed ≡ lengthAt bytes) × Stands bytes
-
--- a length is not 0
-pub some-bytes : {bytes : List ℕ} {whole : ℕ} → Whole bytes whole → 0 < whole
-some-bytes (with-amount l h) = omega arith
-some-bytes (without-amount l h) = omega arith
-
--- the kind is the first byte
-first-byte : (bytes : List ℕ) → numberAt bytes 0 1 ≡ getD bytes 0 0
-unfolding numberAt
-first-byte bytes = zero-add (getD bytes 0 0)
-
--- each row of the table has the length of its kind
-row-length : (bytes : List ℕ) (r : Row) → rowOf messages (numberAt bytes 0 1) ≡ some r → Whole bytes (r .whole)
-unfolding messages
-row-length bytes r e = go (leb 1 kind) (leb kind 3) (leb kind 6) refl refl refl
-  where
-    kind : ℕ
-    kind = numberAt bytes 0 1
-
-    same : kind ≡ getD bytes 0 0
-    same = first-byte bytes
-
-    missing : wholeOf (rowOf messages kind) ≡ 0 → ⊥
-    missing q =
-        let gone : rowOf messages kind ≡ none = unknown messages kind (omega arith) q in
-        let z : _≡_ {A = ℕ} 0 1 = cc in omega arith
-
-    go : (a b c : Bool) → leb 1 kind ≡ a → leb kind 3 ≡ b → leb kind 6 ≡ c → Whole bytes (r .whole)
-    go true true c p q s =
-        let l = leb-true 1 kind p in
-        let h = leb-true kind 3 q in
-        subst (Whole bytes) (sym (kind-with-amount kind l h) ∙ ap wholeOf e) (with-amount (omega (arith, same)) (omega (arith, same)))
-    go true false true p q s =
-        let l = leb-false kind 3 q in
-        let h = leb-true kind 6 s in
-        subst (Whole bytes) (sym (kind-without-amount kind l h) ∙ ap wholeOf e) (without-amount (omega (arith, same)) (omega (arith, same)))
-    go true false false p q s = absurd (missing (above-kinds kind (leb-false kind 6 s)))
-    go false b c p q s = absurd (missing (below-kinds kind (leb-false 1 kind p)))
 
 told-kind : (bytes : List ℕ) (found : Option Row) → rowOf messages (numberAt bytes 0 1) ≡ found → Told bytes (readKind found bytes)
 unfolding Told

@@ -22,7 +22,8 @@ use Rattle.register.specs.Sequence.{Input, Exchange, exchanges}
 use Rattle.register.specs.Demands.{ByteStrings}
 use Rattle.register.specs.Run.{Run, ended as ended-run, numbersOf, lengthAt, passedOf, joined, first, runFrom, runOf}
 use Rattle.register.specs.RunCalls.{Calls, ended, stopped, skipped, taken, refusedAmong, entriesAmong, Sums, IsCalls, RunIsItsCalls, RunDemand3}
-use Rattle.register.proofs.Moved.{Stands, Tells, some-bytes, Moved, call-moves, call-tells}
+use Rattle.register.proofs.Moved.{Stands, Tells, Moved, call-moves, call-tells}
+use Rattle.register.proofs.Whole.{some-bytes}
 use Rattle.register.proofs.Underway.{run-ended, run-more}
 use Rattle.register.proofs.Demands.{demand3}
 

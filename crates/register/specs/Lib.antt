@@ -9,3 +9,4 @@ pub mod Seconds
 pub mod Demands
 pub mod Run
 pub mod RunCalls
+pub mod RunSeconds
