@@ -15,3 +15,4 @@ pub mod WholeRuns
 pub mod Alike
 pub mod RunCalls
 pub mod RunSeconds
+pub mod Samples

@@ -10,3 +10,4 @@ pub mod Demands
 pub mod Run
 pub mod RunCalls
 pub mod RunSeconds
+pub mod Samples
