@@ -73,7 +73,7 @@ module _ (r : Register) (buffer other : List ℕ) (e : length buffer ≡ length 
   unfolding callOf
   same-call bytes = same-reading (readOf bytes)
 
-passed-written : (answer : Answer) (whole : ℕ) → passedOf answer whole .written ≡ writtenOf answer
+pub passed-written : (answer : Answer) (whole : ℕ) → passedOf answer whole .written ≡ writtenOf answer
 passed-written (Taken consumed written) whole = refl
 passed-written (Refused n) whole = go (leb n 2)
   where

@@ -5,6 +5,7 @@ pub mod ReadBack
 pub mod Sequences
 pub mod InOrder
 pub mod Demand3
+pub mod Whole
 pub mod OtherSecond
 pub mod Seconds
 pub mod AsTheRule
@@ -19,3 +20,6 @@ pub mod Moved
 pub mod Underway
 pub mod WholeRuns
 pub mod Alike
+pub mod RunCalls
+pub mod RunSeconds
+pub mod Samples

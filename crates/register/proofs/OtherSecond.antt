@@ -1,23 +1,24 @@
--- Bytes that differ only in the four bytes of a second. They are read alike: every number of a message but its second stands below byte 7 or from byte 11 on, and there
--- the bytes agree. And they are written alike: entries that agree but for their seconds have the same bytes before and behind them.
+-- Bytes that differ only in the four bytes of a second. They are read alike: every number of a message but its second stands below byte 7 or from byte 11 up to its length,
+-- and there the bytes agree. And they are written alike: entries that agree but for their seconds have the same bytes before and behind them.
 -- Assumes nothing.
-use Prim.Native.Nat.{ℕ, zero, suc, _+_, _-_, _≤_, _<_}
+use Prim.Native.Nat.{ℕ, zero, suc, _+_, _-_, _≤_, _<_, min}
+use native.Mathlib.Nat.{sub-zero, zero-sub, suc-sub-suc}
 use native.Mathlib.Omega.{arith}
 use mathlib.Core.Path.{_≡_, refl, sym, _∙_, ap, ap₂, subst₂}
 use mathlib.Core.Bool.{Bool, true, false, cond}
 use mathlib.Core.List.{List, [], _∷_, _++_, map}
 use mathlib.Core.Option.{Option, none, some}
-use borrow.Author.Tests.{ltb-false}
+use borrow.Author.Tests.{ltb-true, ltb-false, eqb-true, eqb-false}
 use lib.Dec.{eqb, ltb}
-use lib.ListN.{length, getD, take, drop, length-append}
-use lib.Seq.{getD-take, getD-drop, take-at, drop-at}
+use lib.ListN.{length, getD, take, drop, length-append, length-take}
+use lib.Seq.{slice, take-nil, getD-take, getD-drop, take-at, drop-at}
 use Rattle.rule.specs.Rule as rule
 use Rattle.rule.specs.Filed.{messageThrough, entryThrough}
 use Rattle.account.specs.declared.Told.{Told}
 use Rattle.account.specs.declared.Entry.{Entry}
 use Rattle.account.specs.Steps.{RuleEntry, entryOf}
 use Rattle.layout.specs.Number.{numberAt}
-use Rattle.layout.specs.Fields.{Row, rowOf, thenOf, widthsOf, heading, numbersAt, written, lastAccount}
+use Rattle.layout.specs.Fields.{Row, rowOf, thenOf, widthsOf, heading, numbersAt, written, total, lastAccount}
 use Rattle.layout.specs.Events.{eventOf}
 use Rattle.layout.proofs.Fields.{length-written, written-append}
 use Rattle.message.specs.declared.Heading.{Heading}
@@ -30,7 +31,9 @@ use Rattle.message.specs.Answers.{readNumbers, readKind, readOf}
 use Rattle.entry.specs.Bytes.{entryRows, kindOf, thenNumbers, bytesOfEntry, bytesOfEntries}
 use Rattle.entry.proofs.Stored.{length-entry}
 use Rattle.register.specs.Register.{ruleMessage}
-use Rattle.register.specs.Seconds.{OtherSecond, SameEntries, no-entry, entry}
+use Rattle.register.specs.Whole.{Whole}
+use Rattle.register.specs.Seconds.{OtherSecond, SameMessage, WholeStrings, SameEntries, no-entry, entry}
+use Rattle.register.proofs.Whole.{row-length, row-total}
 
 -- what is left of a second that is not looked at
 abbrev pub forget : ℕ → ℕ
@@ -42,15 +45,17 @@ pub data SameReading : Reading → Reading → Type 0 where
   same-message : (m m′ : Message) (account whole : ℕ) → headingOf m .account ≡ account → headingOf m′ .account ≡ account → account ≤ lastAccount
       → messageThrough forget (ruleMessage m) ≡ messageThrough forget (ruleMessage m′) → SameReading (Reading′.Message m whole) (Reading′.Message m′ whole)
 
--- Numbers that stand before or behind the second.
-module _ (bytes bytes′ : List ℕ) (other : OtherSecond bytes bytes′) where
+-- Numbers that stand before the second, or behind it within the message's length.
+module _ (bytes bytes′ : List ℕ) (other : SameMessage bytes bytes′) where
   before : (i : ℕ) → i < 7 → getD bytes i 0 ≡ getD bytes′ i 0
   before i l = sym (getD-take 7 bytes i 0 l) ∙ ap (λ (s : List ℕ). getD s i 0) (other .front) ∙ getD-take 7 bytes′ i 0 l
 
-  behind : (i : ℕ) → 11 ≤ i → getD bytes i 0 ≡ getD bytes′ i 0
-  behind i l =
-      let k : i ≡ 11 + (i - 11) = omega arith in
-      rw k (sym (getD-drop 11 bytes (i - 11) 0) ∙ ap (λ (s : List ℕ). getD s (i - 11) 0) (other .back) ∙ getD-drop 11 bytes′ (i - 11) 0)
+  -- a byte of a part
+  within : (s : List ℕ) (whole i : ℕ) → 11 ≤ i → i < whole → getD (slice 11 whole s) (i - 11) 0 ≡ getD s i 0
+  within s whole i l h = let k : 11 + (i - 11) ≡ i = omega arith in getD-drop 11 (take whole s) (i - 11) 0 ∙ rw k (getD-take whole s i 0 h)
+
+  behind : (whole : ℕ) → Whole bytes whole → (i : ℕ) → 11 ≤ i → i < whole → getD bytes i 0 ≡ getD bytes′ i 0
+  behind whole w i l h = sym (within bytes whole i l h) ∙ ap (λ (s : List ℕ). getD s (i - 11) 0) (other .back whole w) ∙ within bytes′ whole i l h
 
   -- a number whose bytes agree
   number-same : (at width : ℕ) → ((i : ℕ) → i < width → getD bytes (at + i) 0 ≡ getD bytes′ (at + i) 0) → numberAt bytes at width ≡ numberAt bytes′ at width
@@ -58,14 +63,38 @@ module _ (bytes bytes′ : List ℕ) (other : OtherSecond bytes bytes′) where
   number-same at zero h = refl
   number-same at (suc width) h = rw (number-same at width (λ i l. h i (omega arith)), h width (omega arith))
 
-  number-before : (at width : ℕ) → at + width ≤ 7 → numberAt bytes at width ≡ numberAt bytes′ at width
+  pub number-before : (at width : ℕ) → at + width ≤ 7 → numberAt bytes at width ≡ numberAt bytes′ at width
   number-before at width l = number-same at width (λ i k. before (at + i) (omega arith))
 
-  numbers-behind : (widths : List ℕ) (at : ℕ) → 11 ≤ at → numbersAt widths bytes at ≡ numbersAt widths bytes′ at
+  numbers-behind : (whole : ℕ) → Whole bytes whole → (widths : List ℕ) (at : ℕ) → 11 ≤ at → at + total widths ≤ whole → numbersAt widths bytes at ≡ numbersAt widths bytes′ at
   unfolding numbersAt
-  numbers-behind [] at l = refl
-  numbers-behind (width ∷ widths) at l =
-      ap₂ (λ (n : ℕ) (ns : List ℕ). n ∷ ns) (number-same at width (λ i k. behind (at + i) (omega arith))) (numbers-behind widths (at + width) (omega arith))
+  numbers-behind whole w [] at l h = refl
+  numbers-behind whole w (width ∷ widths) at l h =
+      ap₂ (λ (n : ℕ) (ns : List ℕ). n ∷ ns)
+      (number-same at width (λ i k. behind whole w (at + i) (omega arith) (omega arith)))
+      (numbers-behind whole w widths (at + width) (omega arith) (omega arith))
+
+  -- both are empty or neither, and both are too short or neither
+  pub empty-same : eqb (length bytes) 0 ≡ eqb (length bytes′) 0
+  empty-same = go (eqb (length bytes) 0) (eqb (length bytes′) 0) refl refl
+    where
+      sizes : min 7 (length bytes) ≡ min 7 (length bytes′)
+      sizes = sym (length-take 7 bytes) ∙ ap length (other .front) ∙ length-take 7 bytes′
+
+      go : (b c : Bool) → eqb (length bytes) 0 ≡ b → eqb (length bytes′) 0 ≡ c → b ≡ c
+      go true true p q = refl
+      go true false p q = absurd (eqb-false (length bytes′) 0 q (omega (arith, sizes, eqb-true (length bytes) 0 p)))
+      go false true p q = absurd (eqb-false (length bytes) 0 p (omega (arith, sizes, eqb-true (length bytes′) 0 q)))
+      go false false p q = refl
+
+  short-same : (whole : ℕ) → Whole bytes whole → ltb (length bytes) whole ≡ ltb (length bytes′) whole
+  short-same whole w = go (ltb (length bytes) whole) (ltb (length bytes′) whole) refl refl
+    where
+      go : (b c : Bool) → ltb (length bytes) whole ≡ b → ltb (length bytes′) whole ≡ c → b ≡ c
+      go true true p q = refl
+      go true false p q = absurd (omega (arith, ltb-true (length bytes) whole p, other .reached whole w .1 (ltb-false (length bytes′) whole q)))
+      go false true p q = absurd (omega (arith, ltb-true (length bytes′) whole q, other .reached whole w .0 (ltb-false (length bytes) whole p)))
+      go false false p q = refl
 
 -- Messages whose numbers agree but for the second, by the tests of their kind.
 module _ (kind transaction account second second′ amount : ℕ) where
@@ -104,11 +133,11 @@ numbers-same kind transaction account second second′ whole amounts = go (ltb l
     go false q = message-same kind transaction account second second′ amount whole (ltb-false lastAccount account q)
 
 -- and so are bytes
-module _ (bytes bytes′ : List ℕ) (other : OtherSecond bytes bytes′) where
-  kind-same : (found : Option Row) → SameReading (readKind found bytes) (readKind found bytes′)
+module _ (bytes bytes′ : List ℕ) (other : SameMessage bytes bytes′) where
+  kind-same : (found : Option Row) → rowOf messages (numberAt bytes 0 1) ≡ found → SameReading (readKind found bytes) (readKind found bytes′)
   unfolding numbersAt
-  kind-same none = same-refusal 2
-  kind-same (some r) = rw (other .size) (go (ltb (length bytes′) (r .whole)))
+  kind-same none e = same-refusal 2
+  kind-same (some r) e = rw (short-same bytes bytes′ other (r .whole) (row-length bytes r e)) (go (ltb (length bytes′) (r .whole)))
     where
       numbers : List ℕ → List ℕ
       numbers s = numbersAt (widthsOf (some r)) s 0
@@ -120,20 +149,36 @@ module _ (bytes bytes′ : List ℕ) (other : OtherSecond bytes bytes′) where
             number-before bytes bytes′ other 0 1 (omega arith),
             number-before bytes bytes′ other 1 4 (omega arith),
             number-before bytes bytes′ other 5 2 (omega arith),
-            numbers-behind bytes bytes′ other (r .then) 11 (omega arith),
+            numbers-behind bytes bytes′ other (r .whole) (row-length bytes r e) (r .then) 11 (omega arith) (omega (arith, row-total bytes r e)),
           )
           (numbers-same (numberAt bytes′ 0 1) (numberAt bytes′ 1 4) (numberAt bytes′ 5 2) (numberAt bytes 7 4) (numberAt bytes′ 7 4) (r .whole) (numbersAt (r .then) bytes′ 11))
 
   pub reading-same : SameReading (readOf bytes) (readOf bytes′)
   unfolding readOf
-  reading-same = rw (number-before bytes bytes′ other 0 1 (omega arith), other .size) (go (eqb (length bytes′) 0))
+  reading-same = rw (empty-same bytes bytes′ other, ← number-before bytes bytes′ other 0 1 (omega arith)) (go (eqb (length bytes′) 0))
     where
       row′ : Option Row
-      row′ = rowOf messages (numberAt bytes′ 0 1)
+      row′ = rowOf messages (numberAt bytes 0 1)
 
       go : (empty : Bool) → SameReading (cond empty (Reading′.Refused 1) (readKind row′ bytes)) (cond empty (Reading′.Refused 1) (readKind row′ bytes′))
       go true = same-refusal 1
-      go false = kind-same row′
+      go false = kind-same row′ refl
+
+-- a part is the beginning of what is left
+slice-take : (from to : ℕ) (s : List ℕ) → slice from to s ≡ take (to - from) (drop from s)
+slice-take zero to s = ap (λ (n : ℕ). take n s) (sym (sub-zero to))
+slice-take (suc from) zero s = ap (λ (n : ℕ). take n (drop (suc from) s)) (sym (zero-sub (suc from)))
+slice-take (suc from) (suc to) [] = sym (take-nil (suc to - suc from))
+slice-take (suc from) (suc to) (x ∷ xs) = slice-take from to xs ∙ ap (λ (n : ℕ). take n (drop from xs)) (sym (suc-sub-suc to from))
+
+-- strings that differ only in the second as wholes begin with messages that do
+pub whole-strings : WholeStrings
+whole-strings bytes bytes′ other =
+    record {
+      front = other .front;
+      back = λ whole w. slice-take 11 whole bytes ∙ ap (take (whole - 11)) (other .back) ∙ sym (slice-take 11 whole bytes′);
+      reached = λ whole w. (λ h. omega (arith, other .size), λ h. omega (arith, other .size));
+    }
 
 -- An entry's bytes: seven before its second, and those behind it.
 module _ (kind transaction account second : ℕ) (then numbers : List ℕ) where

@@ -38,7 +38,7 @@ use Rattle.register.specs.declared.Answer.the-variants.{Taken}
 use Rattle.register.specs.Register.{freshRegister, nowhere, accountAt, withAccount, ruleMessage}
 use Rattle.register.specs.Call.{writtenOf, Result, refusedWith, afterStep, afterMessage, afterReading, callOf}
 use Rattle.register.specs.Sequence.{Input, exchanges}
-use Rattle.register.specs.Seconds.{OtherSecond, OtherSeconds, none, one-more, SameEntries, no-entry, SameExchanges, none-seen, one-seen}
+use Rattle.register.specs.Seconds.{SameMessage, OtherSeconds, none, one-more, SameEntries, no-entry, SameExchanges, none-seen, one-seen}
 use Rattle.register.specs.Demands.{SecondsNeverMatter}
 use Rattle.entry.proofs.CallFits.{listed}
 use Rattle.register.proofs.OtherSecond.{forget, SameReading, same-refusal, same-message, reading-same, entries-same, same-length}
@@ -49,17 +49,17 @@ record SameAccount (a a′ : Account) : Type 0 where
   order′ : orderOf a′ ≡ true
   lists : accountThrough forget (listsOf a) ≡ accountThrough forget (listsOf a′)
 
-record SameRegister (r r′ : Register) : Type 0 where
+pub record SameRegister (r r′ : Register) : Type 0 where
   sixteen : length (r .accounts) ≡ 16
   sixteen′ : length (r′ .accounts) ≡ 16
   accounts : (i : ℕ) → i ≤ lastAccount → SameAccount (accountAt r i) (accountAt r′ i)
 
 -- what two calls give that agree but for the seconds
-record SameResult (ρ ρ′ : Result) : Type 0 where
-  answers : ρ .answer ≡ ρ′ .answer
-  entries : SameEntries (take (writtenOf (ρ .answer)) (ρ .buffer)) (take (writtenOf (ρ′ .answer)) (ρ′ .buffer))
-  rest : drop (writtenOf (ρ .answer)) (ρ .buffer) ≡ drop (writtenOf (ρ′ .answer)) (ρ′ .buffer)
-  registers : SameRegister (ρ .register) (ρ′ .register)
+pub record SameResult (ρ ρ′ : Result) : Type 0 where
+  pub answers : ρ .answer ≡ ρ′ .answer
+  pub entries : SameEntries (take (writtenOf (ρ .answer)) (ρ .buffer)) (take (writtenOf (ρ′ .answer)) (ρ′ .buffer))
+  pub rest : drop (writtenOf (ρ .answer)) (ρ .buffer) ≡ drop (writtenOf (ρ′ .answer)) (ρ′ .buffer)
+  pub registers : SameRegister (ρ .register) (ρ′ .register)
 
 -- the rule's calls on such lists
 module _ (a a′ : RuleAccount) (m m′ : rule.Message ℕ Event) (accounts : accountThrough forget a ≡ accountThrough forget a′)
@@ -173,7 +173,7 @@ module _ (r r′ : Register) (buffer : List ℕ) (same : SameRegister r r′) wh
             stepped-same (accountAt r i) (accountAt r′ i) (called .account) (called′ .account) (called .answer) (called′ .answer) next-same
             (answer-same a a′ (ruleMessage m) (ruleMessage m′) (k .lists) e)
 
-  call-same : (bytes bytes′ : List ℕ) → OtherSecond bytes bytes′ → SameResult (callOf r bytes buffer) (callOf r′ bytes′ buffer)
+  pub call-same : (bytes bytes′ : List ℕ) → SameMessage bytes bytes′ → SameResult (callOf r bytes buffer) (callOf r′ bytes′ buffer)
   unfolding callOf
   call-same bytes bytes′ other = by (reading-same bytes bytes′ other)
     where
@@ -196,7 +196,7 @@ new-order : rule-order.order panel (rule.newAccount panel ℕ) ≡ true
 unfolding rule-order.order
 new-order = refl
 
-fresh-same : SameRegister freshRegister freshRegister
+pub fresh-same : SameRegister freshRegister freshRegister
 unfolding freshRegister
 fresh-same =
     record {

@@ -78,7 +78,7 @@ ends bytes buffer r ran entries u h =
     )
 
 -- where there is a message
-run-more : (most : ℕ) (r : Register) (bytes buffer : List ℕ) → 0 < length bytes → runFrom (suc most) r bytes buffer
+pub run-more : (most : ℕ) (r : Register) (bytes buffer : List ℕ) → 0 < length bytes → runFrom (suc most) r bytes buffer
     ≡ joined (first (passedOf (callOf r bytes buffer .answer) (lengthAt bytes)) (callOf r bytes buffer .buffer))
     (cond (passedOf (callOf r bytes buffer .answer) (lengthAt bytes) .stops)
     (ended (drop (passedOf (callOf r bytes buffer .answer) (lengthAt bytes) .written) (callOf r bytes buffer .buffer)))

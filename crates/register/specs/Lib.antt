@@ -6,6 +6,10 @@ pub mod Unchanged
 pub mod Own
 pub mod Sequence
 pub mod Fits
+pub mod Whole
 pub mod Seconds
 pub mod Demands
 pub mod Run
+pub mod RunCalls
+pub mod RunSeconds
+pub mod Samples

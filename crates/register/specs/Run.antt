@@ -33,6 +33,11 @@ ended entries = record { counts = nothing; entries = entries }
 abbrev pub lengthAt : (bytes : List ℕ) → ℕ
 lengthAt bytes = wholeOf (rowOf messages (numberAt bytes 0 1))
 
+-- the number of a refusal; 0 says that there is none
+abbrev pub answerNumber : Answer → ℕ
+answerNumber (Refused n) = n
+answerNumber (Taken consumed written) = 0
+
 -- what a message comes to: "after 1 or 2 it stops reading .., after others it skips that message by its length"
 abbrev pub passedOf : Answer → (whole : ℕ) → Passed
 passedOf (Taken consumed written) whole = record { refused = 0; consumed = consumed; written = written; stops = false }

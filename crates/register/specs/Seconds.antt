@@ -1,25 +1,39 @@
 -- The seconds never matter (demand 2): "Two message sequences that differ only in their seconds, each sent to a fresh register with equal buffers, receive equal answers,
--- and entries equal but for the seconds."
+-- and entries equal but for the seconds." Messages are compared within their whole length, so that this is said of the calls of a run too.
 -- Assumes nothing.
-use Prim.Native.Nat.{ℕ}
+use Prim.Native.Nat.{ℕ, _≤_}
 use mathlib.Core.Path.{_≡_}
+use mathlib.Core.Logic.{_↔_}
 use mathlib.Core.List.{List, [], _∷_, _++_}
 use lib.ListN.{length, take, drop}
+use lib.Seq.{slice}
 use Rattle.account.specs.declared.Entry.{Entry}
 use Rattle.entry.specs.Bytes.{bytesOfEntry}
 use Rattle.register.specs.Call.{writtenOf}
 use Rattle.register.specs.Sequence.{Input, Exchange}
+use Rattle.register.specs.Whole.{Whole}
 
--- two strings that differ only in the four bytes of the second, behind kind, transaction and account
+-- two strings that differ at most in the four bytes of the second, behind kind, transaction and account
 pub record OtherSecond (bytes bytes′ : List ℕ) : Type 0 where
   pub size : length bytes ≡ length bytes′
   pub front : take 7 bytes ≡ take 7 bytes′
   pub back : drop 11 bytes ≡ drop 11 bytes′
 
+-- two strings that begin with messages which differ at most in the second: equal before it, and behind it up to the whole length, which both reach or neither;
+-- "Bytes after a whole message are not looked at."
+pub record SameMessage (bytes bytes′ : List ℕ) : Type 0 where
+  pub front : take 7 bytes ≡ take 7 bytes′
+  pub back : (whole : ℕ) → Whole bytes whole → slice 11 whole bytes ≡ slice 11 whole bytes′
+  pub reached : (whole : ℕ) → Whole bytes whole → (whole ≤ length bytes) ↔ (whole ≤ length bytes′)
+
+-- strings that differ so as wholes are among them
+abbrev pub WholeStrings : Type 0
+WholeStrings = (bytes bytes′ : List ℕ) → OtherSecond bytes bytes′ → SameMessage bytes bytes′
+
 -- "Two message sequences that differ only in their seconds .. with equal buffers"
 pub data OtherSeconds : List Input → List Input → Type 0 where
   none : OtherSeconds [] []
-  one-more : {x y : Input} {xs ys : List Input} → OtherSecond (x .message) (y .message) → x .buffer ≡ y .buffer → OtherSeconds xs ys → OtherSeconds (x ∷ xs) (y ∷ ys)
+  one-more : {x y : Input} {xs ys : List Input} → SameMessage (x .message) (y .message) → x .buffer ≡ y .buffer → OtherSeconds xs ys → OtherSeconds (x ∷ xs) (y ∷ ys)
 
 -- entries one after the other, "equal but for the seconds"
 pub data SameEntries : List ℕ → List ℕ → Type 0 where

@@ -3,7 +3,8 @@ use crate::Answer;
 use crate::Register;
 use crate::named;
 ghost use mathlib.Core.Path.{_≡_};
-ghost use Rattle.register.specs.Run.{runOf, passedOf, one, added, Countable};
+ghost use Rattle.register.specs.declared.Answer.the-variants.{Refused};
+ghost use Rattle.register.specs.Run.{runOf, answerNumber, passedOf, one, added, Countable};
 
 // What a run comes to: messages met, messages refused, bytes of messages passed, bytes of entries written.
 pub struct Ran {
@@ -57,30 +58,44 @@ pub fn run(messages: &[u8], entries: &mut [u8]) -> Ran
 fn passed_by(answer: Answer, whole: usize) -> Passed
     ensures { λ r. ⌜ r ≡ passedOf answer whole ⌝ }
 {
+    let Answer::Taken(consumed, written) = answer else {
+        return passed_over(refusal_of(answer), whole);
+    };
+    Passed {
+        refused: 0,
+        consumed,
+        written,
+        stops: false,
+    }
+}
+
+// What a refused message comes to: the run stops at it, or passes it by its whole length.
+fn passed_over(number: u8, whole: usize) -> Passed
+    ensures { λ r. ⌜ r ≡ passedOf (Refused number) whole ⌝ }
+{
+    if number <= 2 {
+        return Passed {
+            refused: 1,
+            consumed: 0,
+            written: 0,
+            stops: true,
+        };
+    }
+    Passed {
+        refused: 1,
+        consumed: whole,
+        written: 0,
+        stops: false,
+    }
+}
+
+// The number of a refusal; 0 where the message was taken.
+fn refusal_of(answer: Answer) -> u8
+    ensures { λ r. ⌜ r ≡ answerNumber answer ⌝ }
+{
     match answer {
-        Answer::Taken(consumed, written) => Passed {
-            refused: 0,
-            consumed: consumed,
-            written: written,
-            stops: false,
-        },
-        Answer::Refused(number) => {
-            if number <= 2 {
-                Passed {
-                    refused: 1,
-                    consumed: 0,
-                    written: 0,
-                    stops: true,
-                }
-            } else {
-                Passed {
-                    refused: 1,
-                    consumed: whole,
-                    written: 0,
-                    stops: false,
-                }
-            }
-        }
+        Answer::Refused(number) => number,
+        Answer::Taken(_, _) => 0,
     }
 }
 

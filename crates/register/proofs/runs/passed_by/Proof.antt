@@ -1,6 +1,6 @@
--- By the cases of the answer, and of a refusal by the test of its number.
+-- By the two cases of the answer: a refusal's number is the one that it carries.
 -- Assumes nothing.
-use borrow.Author.Tests.{le-leb, lt-leb}
+use mathlib.Core.Path.{_∙_}
 use borrow.Author.Needs.{needs}
 use Rattle.register.proofs.runs.passed_by.Statement.{statement}
 use Rattle.register.proofs.runs.passed_by.Tie as tie
@@ -8,18 +8,20 @@ use Rattle.register.proofs.runs.passed_by.Tie as tie
 enum-known-answer : tie.Need-enum-known-answer
 enum-known-answer c = search needs
 
-enum-known-answer-2 : tie.Need-enum-known-answer-2
-enum-known-answer-2 c = search needs
+enum-told : tie.Need-enum-told
+enum-told c = search needs
+
+refusal-of-requires : tie.Need-refusal-of-requires
+refusal-of-requires c κs = search needs
+
+passed-over-requires : tie.Need-passed-over-requires
+passed-over-requires c κs = search needs
 
 returns : tie.Need-returns
-returns c = rw (c .before .answer .given .1)
+returns c = c .passed-over .ensures ∙ rw (c .before .refusal-of .ensures, c .before .before .enum-told .given .1)
 
 returns-2 : tie.Need-returns-2
-returns-2 c = rw (c .before .before .answer2 .given .1, le-leb _ 2 (c .if1 .taken))
-
-returns-3 : tie.Need-returns-3
-returns-3 c = rw (c .before .before .answer2 .given .1, lt-leb _ 2 (c .if1 .left))
+returns-2 c = rw (c .before .answer .given .1)
 
 pub passed-by-spec : {M : Type 1} → statement M
-passed-by-spec =
-    tie.close (tie.spec enum-known-answer enum-known-answer-2 returns returns-2 returns-3)
+passed-by-spec = tie.close (tie.spec enum-known-answer enum-told refusal-of-requires passed-over-requires returns returns-2)

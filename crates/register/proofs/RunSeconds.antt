@@ -1,0 +1,138 @@
+-- The seconds never matter in a run: by induction on the bound. Two calls on messages that differ only in their second agree but for the seconds, so they come to the same;
+-- what they pass is the message's length, and behind it the bytes are such messages again.
+-- Assumes nothing.
+use Prim.Native.Nat.{ℕ, zero, suc, _+_, _≤_}
+use mathlib.Core.Path.{_≡_, refl, sym, _∙_}
+use mathlib.Core.Logic.{inl, inr}
+use mathlib.Core.Bool.{Bool, true, false, cond, true≢false}
+use mathlib.Core.List.{List, _++_, append-assoc}
+use native.Mathlib.Omega.{arith}
+use lib.Dec.{eqb}
+use lib.ListN.{length, take, drop}
+use lib.Seq.{take-append-add, drop-append-add, length-take-le}
+use borrow.Author.Tests.{lt-leb}
+use Rattle.entry.specs.Bytes.{bytesOfEntry}
+use Rattle.register.specs.declared.Register.{Register}
+use Rattle.register.specs.declared.Answer.{Answer}
+use Rattle.register.specs.declared.Answer.the-variants.{Refused, Taken}
+use Rattle.register.specs.declared.runs.Passed.{Passed}
+use Rattle.register.specs.Register.{freshRegister}
+use Rattle.register.specs.Call.{Result, writtenOf, callOf}
+use Rattle.register.specs.Whole.{Whole}
+use Rattle.register.specs.Seconds.{SameMessage, SameEntries, no-entry, entry}
+use Rattle.register.specs.Run.{Run, ended, lengthAt, passedOf, joined, first, turnOf, runFrom, runOf}
+use Rattle.register.specs.RunSeconds.{SameMessages, same-messages, SameRun, RunSecondsNeverMatter}
+use Rattle.register.proofs.OtherSecond.{number-before, empty-same}
+use Rattle.register.proofs.Seconds.{SameRegister, SameResult, call-same, fresh-same}
+use Rattle.register.proofs.Moved.{Stands, Tells, call-moves, call-tells}
+use Rattle.register.proofs.Alike.{passed-written}
+use Rattle.register.proofs.WholeRuns.{bound-never-matters}
+
+-- entries and then others
+same-append : {xs xs′ ys ys′ : List ℕ} → SameEntries xs xs′ → SameEntries ys ys′ → SameEntries (xs ++ ys) (xs′ ++ ys′)
+same-append no-entry k = k
+same-append {ys = ys} {ys′ = ys′} (entry account e e′ {rest = rest} {rest′ = rest′} other more) k =
+    rw (append-assoc (bytesOfEntry account e) rest ys, append-assoc (bytesOfEntry account e′) rest′ ys′) (entry account e e′ other (same-append more k))
+
+same-ended : (buffer : List ℕ) → SameRun (ended buffer) (ended buffer)
+same-ended buffer = record { counts = refl; entries = no-entry; rest = refl }
+
+-- a message's part of the run, and then the rest
+same-joined : (p : Passed) (out out′ : List ℕ) (x y : Run) → p .written ≤ length out → p .written ≤ length out′ → SameEntries (take (p .written) out) (take (p .written) out′)
+    → SameRun x y → SameRun (joined (first p out) x) (joined (first p out′) y)
+same-joined p out out′ x y h h′ e s =
+    record {
+      counts = rw (s .counts);
+      entries = rw (front out x h, front out′ y h′) (same-append e (s .entries));
+      rest = behind out x h ∙ s .rest ∙ sym (behind out′ y h′);
+    }
+  where
+    front : (o : List ℕ) (z : Run) → p .written ≤ length o → take (p .written + z .counts .written) (take (p .written) o ++ z .entries) ≡ take (p .written) o ++ take (z .counts .written) (z .entries)
+    front o z l = rw (length-take-le (p .written) o l) at (take-append-add (take (p .written) o) (z .entries) (z .counts .written))
+
+    behind : (o : List ℕ) (z : Run) → p .written ≤ length o → drop (p .written + z .counts .written) (take (p .written) o ++ z .entries) ≡ drop (z .counts .written) (z .entries)
+    behind o z l = rw (length-take-le (p .written) o l) at (drop-append-add (take (p .written) o) (z .entries) (z .counts .written))
+
+-- a message that the run goes on from is passed by its whole length
+passes : (bytes : List ℕ) (answer : Answer) → Tells bytes answer → passedOf answer (lengthAt bytes) .stops ≡ false → (passedOf answer (lengthAt bytes) .consumed ≡ lengthAt bytes) × Stands bytes
+passes bytes (Refused n) (inl (inl e)) s = absurd (true≢false (rw e at s))
+passes bytes (Refused n) (inl (inr e)) s = absurd (true≢false (rw e at s))
+passes bytes (Refused n) (inr (high, stands)) s = (rw (lt-leb n 2 high), stands)
+passes bytes (Taken consumed written) t s = t
+
+-- both runs go on alike
+GoSame : (Register → (bytes buffer : List ℕ) → Run) → Type 0
+GoSame f = (r r′ : Register) (bytes bytes′ buffer : List ℕ) → SameRegister r r′ → SameMessages bytes bytes′ → SameRun (f r bytes buffer) (f r′ bytes′ buffer)
+
+module _ (f : Register → (bytes buffer : List ℕ) → Run) (h : GoSame f) (r r′ : Register) (bytes bytes′ buffer : List ℕ) (registers : SameRegister r r′) (same : SameMessage bytes bytes′)
+    (behind : (whole : ℕ) → Whole bytes whole → whole ≤ length bytes → SameMessages (drop whole bytes) (drop whole bytes′)) where
+  called : Result
+  called = callOf r bytes buffer
+
+  called′ : Result
+  called′ = callOf r′ bytes′ buffer
+
+  k : SameResult called called′
+  unfolding called called′
+  k = call-same r r′ buffer registers bytes bytes′ same
+
+  -- what both messages come to
+  p : Passed
+  p = passedOf (called .answer) (lengthAt bytes)
+
+  passed-same : passedOf (called′ .answer) (lengthAt bytes′) ≡ p
+  unfolding p
+  passed-same = rw (← k .answers, ← number-before bytes bytes′ same 0 1 (omega arith))
+
+  -- what follows the calls
+  after : Result → Passed → (s : List ℕ) → Run
+  after x q s =
+      let left = drop (q .written) (x .buffer) in
+      joined (first q (x .buffer)) (cond (q .stops) (ended left) (f (x .register) (drop (q .consumed) s) left))
+
+  after-same : SameRun (after called p bytes) (after called′ p bytes′)
+  unfolding after called called′ p GoSame
+  after-same = same-joined p (called .buffer) (called′ .buffer) _ _ room room′ (rw own (rw (← k .answers) at (k .entries))) (on (p .stops) refl)
+    where
+      own : p .written ≡ writtenOf (called .answer)
+      own = passed-written (called .answer) (lengthAt bytes)
+
+      room : p .written ≤ length (called .buffer)
+      room = let m = call-moves r bytes buffer in omega (arith, m .room, m .size)
+
+      room′ : p .written ≤ length (called′ .buffer)
+      room′ = rw (← passed-same) (let m = call-moves r′ bytes′ buffer in omega (arith, m .room, m .size))
+
+      left-same : drop (p .written) (called′ .buffer) ≡ drop (p .written) (called .buffer)
+      left-same = rw own (sym (rw (← k .answers) at (k .rest)))
+
+      on : (b : Bool) → p .stops ≡ b
+          → SameRun
+          (cond b (ended (drop (p .written) (called .buffer))) (f (called .register) (drop (p .consumed) bytes) (drop (p .written) (called .buffer))))
+          (cond b (ended (drop (p .written) (called′ .buffer))) (f (called′ .register) (drop (p .consumed) bytes′) (drop (p .written) (called′ .buffer))))
+      on true q = rw left-same (same-ended (drop (p .written) (called .buffer)))
+      on false q =
+          let whole = passes bytes (called .answer) (call-tells r bytes buffer) q in
+          rw left-same
+          (h (called .register) (called′ .register) (drop (p .consumed) bytes) (drop (p .consumed) bytes′) (drop (p .written) (called .buffer)) (k .registers)
+          (rw (whole .0) (behind (lengthAt bytes) (whole .1 .whole) (whole .1 .all-there))))
+
+  turn-same : SameRun (turnOf f r bytes buffer) (turnOf f r′ bytes′ buffer)
+  unfolding after called called′ p
+  turn-same = rw (empty-same bytes bytes′ same) (go (eqb (length bytes′) 0))
+    where
+      go : (b : Bool) → SameRun (cond b (ended buffer) (after called p bytes)) (cond b (ended buffer) (after called′ (passedOf (called′ .answer) (lengthAt bytes′)) bytes′))
+      go true = same-ended buffer
+      go false = rw passed-same after-same
+
+runs-same : (most : ℕ) → GoSame (runFrom most)
+unfolding runFrom GoSame
+runs-same zero r r′ bytes bytes′ buffer registers same = same-ended buffer
+runs-same (suc most) r r′ bytes bytes′ buffer registers (same-messages same behind) = turn-same (runFrom most) (runs-same most) r r′ bytes bytes′ buffer registers same behind
+
+pub run-seconds-never-matter : RunSecondsNeverMatter
+unfolding runOf GoSame
+run-seconds-never-matter bytes bytes′ buffer same =
+    let most = length bytes + length bytes′ in
+    rw (← bound-never-matters most freshRegister bytes buffer (omega arith), ← bound-never-matters most freshRegister bytes′ buffer (omega arith))
+    (runs-same most freshRegister freshRegister bytes bytes′ buffer fresh-same same)

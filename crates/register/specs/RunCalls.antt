@@ -1,0 +1,78 @@
+-- A run is its calls: which calls of a fresh register it makes, where it stops, and what its numbers and its buffer are by what is seen of those calls.
+-- Nothing here goes by how a run is defined; the numbers are document 01's own ("The program").
+-- Assumes nothing.
+use Prim.Native.Nat.{ℕ, _+_, _≤_, _<_}
+use mathlib.Core.Path.{_≡_}
+use mathlib.Core.Logic.{_⊎_}
+use mathlib.Core.List.{List, [], _∷_, _++_}
+use lib.ListN.{length, take, drop}
+use Rattle.rule.specs.Demand as rule
+use Rattle.account.specs.Panel.{panel}
+use Rattle.account.specs.Places.{listsOf}
+use Rattle.layout.specs.Number.{AreBytes}
+use Rattle.register.specs.declared.Register.{Register}
+use Rattle.register.specs.declared.Answer.{Answer}
+use Rattle.register.specs.declared.Answer.the-variants.{Refused, Taken}
+use Rattle.register.specs.Register.{freshRegister, accountAt}
+use Rattle.register.specs.Sequence.{Input, Exchange, after, exchanges, seenBy}
+use Rattle.register.specs.Whole.{Whole}
+use Rattle.register.specs.Run.{Run, runOf, numbersOf}
+
+-- The calls of a run: the bytes and the buffer that are left, what is handed to the calls from there on, what is seen of them, and how many bytes they pass.
+pub data Calls : (bytes buffer : List ℕ) → List Input → List Exchange → (passed : ℕ) → Type 0 where
+  -- "Where no byte is left, the input has ended"
+  ended : {buffer : List ℕ} → Calls [] buffer [] [] 0
+  -- "after 1 or 2 it stops reading"
+  stopped : {bytes buffer : List ℕ} {x : Exchange} (n : ℕ) → 0 < length bytes → x .answer ≡ Refused n → (n ≡ 1) ⊎ (n ≡ 2)
+      → Calls bytes buffer (record { message = bytes; buffer = buffer } ∷ []) (x ∷ []) 0
+  -- "after others it skips that message by its length": the buffer is the same
+  skipped : {bytes buffer : List ℕ} {x : Exchange} {inputs : List Input} {seen : List Exchange} {passed : ℕ} (n whole : ℕ)
+      → x .answer ≡ Refused n → 3 ≤ n → Whole bytes whole → Calls (drop whole bytes) buffer inputs seen passed
+      → Calls bytes buffer (record { message = bytes; buffer = buffer } ∷ inputs) (x ∷ seen) (whole + passed)
+  -- "The next message starts .. just after the last one", and its entries start just after the last ones, in the buffer that the call left
+  taken : {bytes buffer : List ℕ} {x : Exchange} {inputs : List Input} {seen : List Exchange} {passed : ℕ} (whole written : ℕ)
+      → x .answer ≡ Taken whole written → Whole bytes whole → Calls (drop whole bytes) (drop written (x .buffer)) inputs seen passed
+      → Calls bytes buffer (record { message = bytes; buffer = buffer } ∷ inputs) (x ∷ seen) (whole + passed)
+
+-- how many of the calls seen were refused
+abbrev pub isRefused : Answer → ℕ
+isRefused (Refused n) = 1
+isRefused (Taken consumed written) = 0
+
+abbrev pub refusedAmong : List Exchange → ℕ
+refusedAmong [] = 0
+refusedAmong (x ∷ xs) = isRefused (x .answer) + refusedAmong xs
+
+-- the entries of the calls seen, one after the other
+abbrev pub entriesOf : Answer → (buffer : List ℕ) → List ℕ
+entriesOf (Refused n) buffer = []
+entriesOf (Taken consumed written) buffer = take written buffer
+
+abbrev pub entriesAmong : List Exchange → List ℕ
+entriesAmong [] = []
+entriesAmong (x ∷ xs) = entriesOf (x .answer) (x .buffer) ++ entriesAmong xs
+
+-- a run's numbers, in the order in which a caller from outside gets them, and every byte of its buffer, by the calls seen
+pub record Sums (buffer : List ℕ) (seen : List Exchange) (passed : ℕ) (run : Run) : Type 0 where
+  -- "messages met and messages refused", where "A refused message counts in both numbers"; the bytes passed; the bytes written
+  pub counts : run .counts ≡ record { met = length seen; refused = refusedAmong seen; consumed = passed; written = length (entriesAmong seen) }
+  pub exported : numbersOf (run .counts) ≡ length seen ∷ refusedAmong seen ∷ passed ∷ length (entriesAmong seen) ∷ []
+  -- the entries, and the rest of the buffer as it was
+  pub entries : run .entries ≡ entriesAmong seen ++ drop (length (entriesAmong seen)) buffer
+
+pub record IsCalls (r : Register) (bytes buffer : List ℕ) (run : Run) : Type 0 where
+  pub inputs : List Input
+  pub passed : ℕ
+  pub calls : Calls bytes buffer inputs (exchanges r inputs) passed
+  pub sums : Sums buffer (exchanges r inputs) passed run
+
+-- every run is its calls of a fresh register: "starts fresh"
+abbrev pub RunIsItsCalls : Type 0
+RunIsItsCalls = (bytes buffer : List ℕ) → IsCalls freshRegister bytes buffer (runOf bytes buffer)
+
+-- Demand 3 of a run, which is what is exported: of each of the sixteen accounts after its calls, by what was seen of them.
+abbrev pub RunDemand3 : Type 0
+RunDemand3 =
+    (bytes buffer : List ℕ) → AreBytes bytes → (i : ℕ) → i < 16 → (inputs : List Input) (passed : ℕ)
+    → Calls bytes buffer inputs (exchanges freshRegister inputs) passed
+    → rule.Demand3 panel (listsOf (accountAt (after freshRegister inputs) i)) (seenBy i (exchanges freshRegister inputs))
