@@ -31,7 +31,7 @@ open-zero (Withdraw a) h = absurd (false≢true h)
 open-zero (Deposit a) h = absurd (false≢true h)
 open-zero Close h = absurd (false≢true h)
 
-pub no-decision : (d : Decision) → isUndecided d ≡ true → d ≡ Undecided
+no-decision : (d : Decision) → isUndecided d ≡ true → d ≡ Undecided
 no-decision Undecided h = refl
 no-decision Committed h = absurd (false≢true h)
 
