@@ -35,22 +35,22 @@ pub data Calls : (bytes buffer : List ℕ) → List Input → List Exchange → 
       → Calls bytes buffer (record { message = bytes; buffer = buffer } ∷ inputs) (x ∷ seen) (whole + passed)
 
 -- how many of the calls seen were refused
-abbrev pub isRefused : Answer → ℕ
-isRefused (Refused n) = 1
-isRefused (Taken consumed written) = 0
+abbrev pub refusals : Answer → ℕ
+refusals (Refused n) = 1
+refusals (Taken consumed written) = 0
 
 abbrev pub refusedAmong : List Exchange → ℕ
 refusedAmong [] = 0
-refusedAmong (x ∷ xs) = isRefused (x .answer) + refusedAmong xs
+refusedAmong (x ∷ xs) = refusals (x .answer) + refusedAmong xs
 
 -- the entries of the calls seen, one after the other
-abbrev pub entriesOf : Answer → (buffer : List ℕ) → List ℕ
-entriesOf (Refused n) buffer = []
-entriesOf (Taken consumed written) buffer = take written buffer
+abbrev pub writtenPart : Answer → (buffer : List ℕ) → List ℕ
+writtenPart (Refused n) buffer = []
+writtenPart (Taken consumed written) buffer = take written buffer
 
 abbrev pub entriesAmong : List Exchange → List ℕ
 entriesAmong [] = []
-entriesAmong (x ∷ xs) = entriesOf (x .answer) (x .buffer) ++ entriesAmong xs
+entriesAmong (x ∷ xs) = writtenPart (x .answer) (x .buffer) ++ entriesAmong xs
 
 -- a run's numbers, in the order in which a caller from outside gets them, and every byte of its buffer, by the calls seen
 pub record Sums (buffer : List ℕ) (seen : List Exchange) (passed : ℕ) (run : Run) : Type 0 where
