@@ -20,12 +20,12 @@ use Rattle.register.specs.Run.{Run, runOf, numbersOf}
 
 -- The calls of a run: the bytes and the buffer that are left, what is handed to the calls from there on, what is seen of them, and how many bytes they pass.
 pub data Calls : (bytes buffer : List ℕ) → List Input → List Exchange → (passed : ℕ) → Type 0 where
-  -- "Where no byte is left, the input has ended"
+  -- no byte is left
   ended : {buffer : List ℕ} → Calls [] buffer [] [] 0
   -- "after 1 or 2 it stops reading"
   stopped : {bytes buffer : List ℕ} {x : Exchange} (n : ℕ) → 0 < length bytes → x .answer ≡ Refused n → (n ≡ 1) ⊎ (n ≡ 2)
       → Calls bytes buffer (record { message = bytes; buffer = buffer } ∷ []) (x ∷ []) 0
-  -- "after others it skips that message by its length": the buffer is the same
+  -- after any other refusal the message is skipped by its length, and the buffer is the same
   skipped : {bytes buffer : List ℕ} {x : Exchange} {inputs : List Input} {seen : List Exchange} {passed : ℕ} (n whole : ℕ)
       → x .answer ≡ Refused n → 3 ≤ n → Whole bytes whole → Calls (drop whole bytes) buffer inputs seen passed
       → Calls bytes buffer (record { message = bytes; buffer = buffer } ∷ inputs) (x ∷ seen) (whole + passed)
