@@ -1,12 +1,12 @@
 -- What the entry buffer held before never shows: two calls with buffers of one length give the same answer, the same register and the same entries, so the rest of the run starts
 -- from buffers of one length again. By cases on what was read and on the answer, then by induction on the bound.
 -- Assumes nothing.
-use Prim.Native.Nat.{ℕ, zero, suc, _+_, _≤_}
+use Prim.Native.Nat.{ℕ, zero, suc, _≤_}
 use mathlib.Core.Path.{_≡_, refl, sym, _∙_, ap}
 use mathlib.Core.Bool.{Bool, true, false, cond}
 use mathlib.Core.List.{List, _++_}
 use native.Mathlib.Omega.{arith}
-use lib.Dec.{eqb, leb, ltb}
+use lib.Dec.{eqb, ltb}
 use lib.ListN.{length, take, drop, length-append, length-drop}
 use lib.Seq.{take-append-add, take-append-seam, length-take-le}
 use Rattle.account.specs.declared.Account.{Account}
@@ -21,12 +21,11 @@ use Rattle.message.specs.Answers.{readOf}
 use Rattle.entry.specs.Bytes.{bytesOfEntries, listOf}
 use Rattle.entry.specs.Answers.{longestCall}
 use Rattle.register.specs.declared.Register.{Register}
-use Rattle.register.specs.declared.Answer.{Answer}
-use Rattle.register.specs.declared.Answer.the-variants.{Refused, Taken}
 use Rattle.register.specs.declared.runs.Passed.{Passed}
 use Rattle.register.specs.Register.{freshRegister, accountAt, stepBy}
 use Rattle.register.specs.Call.{Result, writtenOf, refusedWith, afterStep, afterMessage, afterReading, callOf}
 use Rattle.register.specs.Run.{Run, ended, lengthAt, passedOf, joined, first, turnOf, runFrom, runOf, Alike, BufferNeverShows}
+use Rattle.register.proofs.Passed.{passed-written}
 use Rattle.register.proofs.Moved.{call-moves}
 
 -- two results that differ at most in buffer bytes after the entries
@@ -72,14 +71,6 @@ module _ (r : Register) (buffer other : List ℕ) (e : length buffer ≡ length 
   same-call : (bytes : List ℕ) → Same (callOf r bytes buffer) (callOf r bytes other)
   unfolding callOf
   same-call bytes = same-reading (readOf bytes)
-
-pub passed-written : (answer : Answer) (whole : ℕ) → passedOf answer whole .written ≡ writtenOf answer
-passed-written (Taken consumed written) whole = refl
-passed-written (Refused n) whole = go (leb n 2)
-  where
-    go : (b : Bool) → cond {A = Passed} b (record { refused = 1; consumed = 0; written = 0; stops = true }) (record { refused = 1; consumed = whole; written = 0; stops = false }) .written ≡ 0
-    go true = refl
-    go false = refl
 
 alike-ended : (xs ys : List ℕ) → Alike (ended xs) (ended ys)
 alike-ended xs ys = record { counts = refl; entries = refl }

@@ -16,6 +16,7 @@ pub mod Demands
 pub mod Accounts
 pub mod InPlace
 pub mod Calls
+pub mod Passed
 pub mod Moved
 pub mod Underway
 pub mod WholeRuns

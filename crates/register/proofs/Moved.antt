@@ -8,10 +8,10 @@ use mathlib.Core.Bool.{Bool, true, false, cond, true≢false}
 use mathlib.Core.List.{List}
 use mathlib.Core.Option.{Option, none, some}
 use native.Mathlib.Omega.{arith}
-use lib.Dec.{eqb, leb, ltb}
+use lib.Dec.{eqb, ltb}
 use lib.ListN.{length, drop, getD, length-append, length-drop}
 use lib.Seq.{drop-append-seam}
-use borrow.Author.Tests.{ltb-false, leb-false}
+use borrow.Author.Tests.{ltb-false}
 use Rattle.rule.specs.Rule as rule
 use Rattle.rule.specs.Call.{refusal}
 use Rattle.rule.proofs.Refusals.{request-refused, commit-refused, abort-refused}
@@ -43,6 +43,7 @@ use Rattle.register.specs.Whole.{Whole}
 use Rattle.register.specs.Run.{lengthAt, passedOf}
 use Rattle.entry.proofs.CallFits.{calls-fit}
 use Rattle.register.proofs.Whole.{some-bytes, row-length}
+use Rattle.register.proofs.Passed.{passed-stops, passed-skips}
 
 -- the message that the bytes begin with stands there whole
 pub record Stands (bytes : List ℕ) : Type 0 where
@@ -122,17 +123,15 @@ module _ (r : Register) (bytes buffer : List ℕ) where
 
   does-refused : (n : ℕ) → Refusable bytes n → Does (refusedWith r buffer n)
   unfolding Does
-  does-refused n h = (go (leb n 2) refl h, h)
+  does-refused n h = (go h, h)
     where
-      on : Stands bytes → Moved bytes buffer buffer (record { refused = 1; consumed = lengthAt bytes; written = 0; stops = false })
-      on w = record { size = refl; room = omega arith; stays = refl; once = omega arith; within = w .all-there; forward = λ z. some-bytes (w .whole) }
-
-      go : (b : Bool) → leb n 2 ≡ b → Refusable bytes n
-          → Moved bytes buffer buffer (cond b (record { refused = 1; consumed = 0; written = 0; stops = true }) (record { refused = 1; consumed = lengthAt bytes; written = 0; stops = false }))
-      go true q h = record { size = refl; room = omega arith; stays = refl; once = omega arith; within = omega arith; forward = λ z. absurd (true≢false z) }
-      go false q (inl (inl e)) = let l = leb-false n 2 q in absurd (omega arith)
-      go false q (inl (inr e)) = let l = leb-false n 2 q in absurd (omega arith)
-      go false q (inr w) = on (w .1)
+      go : Refusable bytes n → Moved bytes buffer buffer (passedOf (Refused n) (lengthAt bytes))
+      go (inl which) =
+          rw (passed-stops n (lengthAt bytes) which)
+          (record { size = refl; room = omega arith; stays = refl; once = omega arith; within = omega arith; forward = λ z. absurd (true≢false z) })
+      go (inr (high, stands)) =
+          rw (passed-skips n (lengthAt bytes) high)
+          (record { size = refl; room = omega arith; stays = refl; once = omega arith; within = stands .all-there; forward = λ z. some-bytes (stands .whole) })
 
   does-step : (i consumed : ℕ) (answer : StepAnswer) (next : Account) (entries : Entries) → consumed ≡ lengthAt bytes → Stands bytes
       → ((n : ℕ) → answer ≡ Step′.Refused n → 3 ≤ n)

@@ -7,10 +7,10 @@ use mathlib.Core.Logic.{_⊎_, inl, inr}
 use mathlib.Core.Bool.{Bool, true, false, cond}
 use mathlib.Core.List.{List, [], _∷_, _++_, append-assoc}
 use native.Mathlib.Omega.{arith}
-use lib.Dec.{eqb, leb}
+use lib.Dec.{eqb}
 use lib.ListN.{length, take, drop, length-append, length-drop}
 use lib.Seq.{take-all, drop-drop, length-take-le, getD-drop}
-use borrow.Author.Tests.{eqb-true, eqb-false, lt-leb}
+use borrow.Author.Tests.{eqb-true, eqb-false}
 use Rattle.layout.specs.Number.{AreBytes}
 use Rattle.register.specs.declared.Register.{Register}
 use Rattle.register.specs.declared.Answer.{Answer}
@@ -22,6 +22,7 @@ use Rattle.register.specs.Sequence.{Input, Exchange, exchanges}
 use Rattle.register.specs.Demands.{ByteStrings}
 use Rattle.register.specs.Run.{Run, ended as ended-run, numbersOf, lengthAt, passedOf, joined, first, runFrom, runOf}
 use Rattle.register.specs.RunCalls.{Calls, ended, stopped, skipped, taken, refusedAmong, entriesAmong, Sums, IsCalls, RunIsItsCalls, RunDemand3}
+use Rattle.register.proofs.Passed.{passed-stops, passed-skips}
 use Rattle.register.proofs.Moved.{Stands, Tells, Moved, call-moves, call-tells}
 use Rattle.register.proofs.Whole.{some-bytes}
 use Rattle.register.proofs.Underway.{run-ended, run-more}
@@ -96,10 +97,10 @@ module _ (f : Register → (bytes buffer : List ℕ) → Run) (r : Register) (by
   seen : Exchange
   seen = record { message = bytes; answer = called .answer; buffer = called .buffer }
 
-  turn-stops : (n : ℕ) → called .answer ≡ Refused n → (n ≡ 1) ⊎ (n ≡ 2) → leb n 2 ≡ true → called .buffer ≡ buffer → IsCalls r bytes buffer (turn (Refused n))
+  turn-stops : (n : ℕ) → called .answer ≡ Refused n → (n ≡ 1) ⊎ (n ≡ 2) → called .buffer ≡ buffer → IsCalls r bytes buffer (turn (Refused n))
   unfolding called turn seen
-  turn-stops n q which low same =
-      rw (low, same)
+  turn-stops n q which same =
+      rw (passed-stops n (lengthAt bytes) which, same)
       (record {
         inputs = record { message = bytes; buffer = buffer } ∷ [];
         passed = 0;
@@ -112,7 +113,7 @@ module _ (f : Register → (bytes buffer : List ℕ) → Run) (r : Register) (by
   turn-skips n q high stands same =
       let whole = lengthAt bytes in
       let k = h (called .register) (drop whole bytes) buffer (omega (arith, some-bytes (stands .whole), length-drop whole bytes)) in
-      rw (lt-leb n 2 high, same)
+      rw (passed-skips n whole high, same)
       (record {
         inputs = record { message = bytes; buffer = buffer } ∷ k .inputs;
         passed = whole + k .passed;
@@ -135,9 +136,8 @@ module _ (f : Register → (bytes buffer : List ℕ) → Run) (r : Register) (by
       }
 
   turn-is : (answer : Answer) → called .answer ≡ answer → Tells bytes answer → Moved bytes buffer (called .buffer) (passedOf answer (lengthAt bytes)) → IsCalls r bytes buffer (turn answer)
-  turn-is (Refused n) q (inl (inl e)) m = turn-stops n q (inl e) (rw e) (rw e at (m .stays))
-  turn-is (Refused n) q (inl (inr e)) m = turn-stops n q (inr e) (rw e) (rw e at (m .stays))
-  turn-is (Refused n) q (inr (high, stands)) m = turn-skips n q high stands (rw (lt-leb n 2 high) at (m .stays))
+  turn-is (Refused n) q (inl which) m = turn-stops n q which (rw (passed-stops n (lengthAt bytes) which) at (m .stays))
+  turn-is (Refused n) q (inr (high, stands)) m = turn-skips n q high stands (rw (passed-skips n (lengthAt bytes) high) at (m .stays))
   turn-is (Taken consumed written) q t m = rw (t .0) (turn-takes written (rw (t .0) at q) (t .1) (rw (t .0) at m))
 
 -- a run of no bytes

@@ -10,7 +10,6 @@ use native.Mathlib.Omega.{arith}
 use lib.Dec.{eqb}
 use lib.ListN.{length, take, drop}
 use lib.Seq.{take-append-add, drop-append-add, length-take-le}
-use borrow.Author.Tests.{lt-leb}
 use Rattle.entry.specs.Bytes.{bytesOfEntry}
 use Rattle.register.specs.declared.Register.{Register}
 use Rattle.register.specs.declared.Answer.{Answer}
@@ -25,7 +24,7 @@ use Rattle.register.specs.RunSeconds.{SameMessages, same-messages, SameR
 use Rattle.register.proofs.OtherSecond.{number-before, empty-same}
 use Rattle.register.proofs.Seconds.{SameRegister, SameResult, call-same, fresh-same}
 use Rattle.register.proofs.Moved.{Stands, Tells, call-moves, call-tells}
-use Rattle.register.proofs.Alike.{passed-written}
+use Rattle.register.proofs.Passed.{passed-stops, passed-skips, passed-written}
 use Rattle.register.proofs.WholeRuns.{bound-never-matters}
 
 -- entries and then others
@@ -55,9 +54,8 @@ same-joined p out out′ x y h h′ e s =
 
 -- a message that the run goes on from is passed by its whole length
 passes : (bytes : List ℕ) (answer : Answer) → Tells bytes answer → passedOf answer (lengthAt bytes) .stops ≡ false → (passedOf answer (lengthAt bytes) .consumed ≡ lengthAt bytes) × Stands bytes
-passes bytes (Refused n) (inl (inl e)) s = absurd (true≢false (rw e at s))
-passes bytes (Refused n) (inl (inr e)) s = absurd (true≢false (rw e at s))
-passes bytes (Refused n) (inr (high, stands)) s = (rw (lt-leb n 2 high), stands)
+passes bytes (Refused n) (inl which) s = absurd (true≢false (rw (passed-stops n (lengthAt bytes) which) at s))
+passes bytes (Refused n) (inr (high, stands)) s = (rw (passed-skips n (lengthAt bytes) high), stands)
 passes bytes (Taken consumed written) t s = t
 
 -- both runs go on alike

@@ -86,7 +86,7 @@ runOf bytes buffer = runFrom (length bytes) freshRegister bytes buffer
 
 -- no message: "nothing is refused", and the entry buffer stays
 abbrev pub EmptyRun : Type 0
-EmptyRun = (buffer : List ℕ) → runOf [] buffer ≡ ended buffer
+EmptyRun = (buffer : List ℕ) → runOf [] buffer ≡ record { counts = record { met = 0; refused = 0; consumed = 0; written = 0 }; entries = buffer }
 
 -- every message that the run goes on from has a byte at least, so that the bound is no part of the meaning: any that is not below the number of bytes gives the same
 abbrev pub BoundNeverMatters : Type 0

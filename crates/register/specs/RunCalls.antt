@@ -20,12 +20,12 @@ use Rattle.register.specs.Run.{Run, runOf, numbersOf}
 
 -- The calls of a run: the bytes and the buffer that are left, what is handed to the calls from there on, what is seen of them, and how many bytes they pass.
 pub data Calls : (bytes buffer : List ℕ) → List Input → List Exchange → (passed : ℕ) → Type 0 where
-  -- "Where no byte is left, the input has ended"
+  -- no byte is left
   ended : {buffer : List ℕ} → Calls [] buffer [] [] 0
   -- "after 1 or 2 it stops reading"
   stopped : {bytes buffer : List ℕ} {x : Exchange} (n : ℕ) → 0 < length bytes → x .answer ≡ Refused n → (n ≡ 1) ⊎ (n ≡ 2)
       → Calls bytes buffer (record { message = bytes; buffer = buffer } ∷ []) (x ∷ []) 0
-  -- "after others it skips that message by its length": the buffer is the same
+  -- after any other refusal the message is skipped by its length, and the buffer is the same
   skipped : {bytes buffer : List ℕ} {x : Exchange} {inputs : List Input} {seen : List Exchange} {passed : ℕ} (n whole : ℕ)
       → x .answer ≡ Refused n → 3 ≤ n → Whole bytes whole → Calls (drop whole bytes) buffer inputs seen passed
       → Calls bytes buffer (record { message = bytes; buffer = buffer } ∷ inputs) (x ∷ seen) (whole + passed)
@@ -35,22 +35,22 @@ pub data Calls : (bytes buffer : List ℕ) → List Input → List Exchange → 
       → Calls bytes buffer (record { message = bytes; buffer = buffer } ∷ inputs) (x ∷ seen) (whole + passed)
 
 -- how many of the calls seen were refused
-abbrev pub isRefused : Answer → ℕ
-isRefused (Refused n) = 1
-isRefused (Taken consumed written) = 0
+abbrev pub refusals : Answer → ℕ
+refusals (Refused n) = 1
+refusals (Taken consumed written) = 0
 
 abbrev pub refusedAmong : List Exchange → ℕ
 refusedAmong [] = 0
-refusedAmong (x ∷ xs) = isRefused (x .answer) + refusedAmong xs
+refusedAmong (x ∷ xs) = refusals (x .answer) + refusedAmong xs
 
 -- the entries of the calls seen, one after the other
-abbrev pub entriesOf : Answer → (buffer : List ℕ) → List ℕ
-entriesOf (Refused n) buffer = []
-entriesOf (Taken consumed written) buffer = take written buffer
+abbrev pub writtenPart : Answer → (buffer : List ℕ) → List ℕ
+writtenPart (Refused n) buffer = []
+writtenPart (Taken consumed written) buffer = take written buffer
 
 abbrev pub entriesAmong : List Exchange → List ℕ
 entriesAmong [] = []
-entriesAmong (x ∷ xs) = entriesOf (x .answer) (x .buffer) ++ entriesAmong xs
+entriesAmong (x ∷ xs) = writtenPart (x .answer) (x .buffer) ++ entriesAmong xs
 
 -- a run's numbers, in the order in which a caller from outside gets them, and every byte of its buffer, by the calls seen
 pub record Sums (buffer : List ℕ) (seen : List Exchange) (passed : ℕ) (run : Run) : Type 0 where

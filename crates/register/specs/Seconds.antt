@@ -20,7 +20,7 @@ pub record OtherSecond (bytes bytes′ : List ℕ) : Type 0 where
   pub back : drop 11 bytes ≡ drop 11 bytes′
 
 -- two strings that begin with messages which differ at most in the second: equal before it, and behind it up to the whole length, which both reach or neither;
--- "Bytes after a whole message are not looked at."
+-- what stands behind a whole message plays no part
 pub record SameMessage (bytes bytes′ : List ℕ) : Type 0 where
   pub front : take 7 bytes ≡ take 7 bytes′
   pub back : (whole : ℕ) → Whole bytes whole → slice 11 whole bytes ≡ slice 11 whole bytes′
