@@ -8,6 +8,7 @@ use mathlib.Core.List.{List, []}
 use lib.ListN.{length}
 use Rattle.rule.specs.Rule.{Rule, Slot, Verdict, accept, reject, hold}
 use Rattle.rule.specs.Outcome.{undecidedOf, bit}
+use Rattle.rule.specs.Weigh.{decideBehind}
 use Rattle.rule.specs.Exact.{chosenState}
 
 module _ {G S E B : Type 0} (R : Rule S E B) where
@@ -32,3 +33,7 @@ module _ {G S E B : Type 0} (R : Rule S E B) where
         × ((k : ℕ) × (k < 2 ^ undecidedOf progress) × (R .guard e (chosenState R progress (bit k) s) ≡ false)))
     -- and counts the outcomes, 2 to the power u
     pub weighed : ahead ≡ [] → length progress < R .room → n ≡ 2 ^ undecidedOf progress
+
+  -- and a request is decided so exactly if that is the vote on it
+  abbrev pub VoteExactly : (ahead progress : List (Slot G E)) → S → E → Verdict → ℕ → Type 0
+  VoteExactly ahead progress s e v n = (decideBehind R ahead e s progress ≡ record { verdict = v; weighed = n }) ↔ Vote ahead progress s e v n
