@@ -10,19 +10,20 @@ use lib.Dec.{leb}
 use lib.ListN.{length}
 use borrow.Author.Tests.{le-leb, leb-true, leb-false, eq-eqb, eqb-true}
 use Rattle.rule.specs.Lists.{every, some-of, numbers}
-use Rattle.rule.specs.Rule.{Rule, Decision, undecided, committed, Slot, slot, Account, Verdict, accept, reject, hold}
+use Rattle.rule.specs.Rule.{Rule, Decision, undecided, committed, Slot, slot, Account, Message, newAccount, Verdict, accept, reject, hold}
 use Rattle.rule.specs.Outcome.{undecidedOf, bit, outcome, outcomes}
 use Rattle.rule.specs.Weigh.{decide}
 use Rattle.rule.specs.Step.{named}
+use Rattle.rule.specs.Call.{call, reached}
 use Rattle.rule.specs.Exact.{chosenState}
 use Rattle.rule.specs.Order.{apart, oldestUndecided, withoutDecision, staysHeld, guarded, oldestStaysHeld, order}
-use Rattle.rule.specs.InOrder.{Ordered, InOrderExactly}
+use Rattle.rule.specs.InOrder.{Ordered, InOrderExactly, ReachedInOrder, CallsKeepOrder}
 use Rattle.rule.proofs.Lists.{and-left, and-right, and-both, some-parts, parts-some, every-parts, parts-every, every-map, every-number, number-every}
 use Rattle.rule.proofs.Exact.{outcome-bits}
 use Rattle.rule.proofs.Vote.{vote}
 use Rattle.rule.proofs.Apart.{apart-at}
 use Rattle.rule.proofs.Safe.{safe-every, guarded-safe}
-use Rattle.rule.proofs.Order.{order-clauses, clauses-order}
+use Rattle.rule.proofs.Order.{order-clauses, clauses-order, reached-order, call-order}
 
 -- a test that is not true is false
 refuted : (b : Bool) → (b ≡ true → ⊥) → b ≡ false
@@ -178,3 +179,9 @@ module _ {G S E B : Type 0} (R : Rule S E B) where
 
   pub in-order-exactly : (a : Account G S E) → InOrderExactly R a
   in-order-exactly a = (order-ordered a, ordered-order a)
+
+  pub reached-in-order : (ms : List (Message G E)) → ReachedInOrder R ms
+  reached-in-order ms sound = order-ordered (reached R (newAccount R G) ms) (reached-order R sound ms)
+
+  pub calls-keep-order : (a : Account G S E) (m : Message G E) → CallsKeepOrder R a m
+  calls-keep-order a m sound h = order-ordered (call R a m .account) (call-order R sound a m (ordered-order a h))

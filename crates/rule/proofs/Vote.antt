@@ -1,15 +1,22 @@
 -- What a request is decided to be is its vote: from the laws on how it is decided and on weighing, each outcome's state by its bits.
 -- Assumes nothing.
 use Prim.Native.Nat.{ℕ, _<_}
-use mathlib.Core.Path.{_≡_, refl, sym, _∙_, ap}
+use mathlib.Core.Path.{_≡_, refl, sym, _∙_, ap, ap₂}
+use mathlib.Core.Bool.{Bool, true, false}
 use mathlib.Core.List.{List, [], _∷_, cons≢nil}
+use lib.Dec.{leb}
 use lib.ListN.{length}
-use Rattle.rule.specs.Rule.{Rule, Slot, Verdict}
+use borrow.Author.Tests.{leb-true, leb-false}
+use Rattle.rule.specs.Rule.{Rule, Slot, Verdict, accept, reject, hold}
 use Rattle.rule.specs.Outcome.{bit, outcome, outcomes}
-use Rattle.rule.specs.Weigh.{Weighing, weigh, decide, decideBehind}
+use Rattle.rule.specs.Weigh.{Weighing, unweighed, weigh, decide, decideBehind}
 use Rattle.rule.specs.Exact.{chosenState}
-use Rattle.rule.specs.Vote.{Vote}
+use Rattle.rule.specs.Vote.{Vote, VoteExactly}
 use Rattle.rule.proofs.Exact.{outcome-bits, exact, decided}
+
+-- a weighing by its two parts
+one : (w : Weighing) (v : Verdict) (n : ℕ) → w .verdict ≡ v → w .weighed ≡ n → w ≡ record { verdict = v; weighed = n }
+one w v n p q = ap₂ (λ (x : Verdict) (y : ℕ). record { verdict = x; weighed = y }) p q
 
 module _ {G S E B : Type 0} (R : Rule S E B) (e : E) (s : S) (progress : List (Slot G E)) where
   -- the guard in an outcome, by the outcome's bits
@@ -54,3 +61,29 @@ module _ {G S E B : Type 0} (R : Rule S E B) (e : E) (s : S) (progress : List (S
   -- with its verdict and count named
   pub vote-is : (ahead : List (Slot G E)) (v : Verdict) (n : ℕ) → decideBehind R ahead e s progress ≡ record { verdict = v; weighed = n } → Vote R ahead progress s e v n
   vote-is ahead v n q = rw q at (vote ahead)
+
+  -- No other vote fits: behind a held request and with no place free there is one, else the outcomes tell verdict and count.
+  is-vote : (ahead : List (Slot G E)) (v : Verdict) (n : ℕ) → Vote R ahead progress s e v n → decideBehind R ahead e s progress ≡ record { verdict = v; weighed = n }
+  is-vote (x ∷ ahead) v n h = let k = h .behind (λ q. cons≢nil q) in one unweighed v n (sym (k .0)) (sym (k .1))
+  is-vote [] v n h = by (leb (R .room) (length progress)) refl
+    where
+      w : Weighing
+      w = decide R e s progress
+
+      by : (b : Bool) → leb (R .room) (length progress) ≡ b → w ≡ record { verdict = v; weighed = n }
+      by true q =
+          let l = leb-true (R .room) (length progress) q in
+          one w v n (vote [] .full l .0 ∙ sym (h .full l .0)) (vote [] .full l .1 ∙ sym (h .full l .1))
+      by false q =
+          one w v n (same (w .verdict) refl) (vote [] .weighed refl l ∙ sym (h .weighed refl l))
+        where
+          l : length progress < R .room
+          l = leb-false (R .room) (length progress) q
+
+          same : (v′ : Verdict) → w .verdict ≡ v′ → w .verdict ≡ v
+          same accept k = k ∙ sym (h .accepted refl l .1 (vote [] .accepted refl l .0 k))
+          same reject k = k ∙ sym (h .rejected refl l .1 (vote [] .rejected refl l .0 k))
+          same hold k = k ∙ sym (h .held refl l .1 (vote [] .held refl l .0 k))
+
+  pub vote-exactly : (ahead : List (Slot G E)) (v : Verdict) (n : ℕ) → VoteExactly R ahead progress s e v n
+  vote-exactly ahead v n = (vote-is ahead v n, is-vote ahead v n)

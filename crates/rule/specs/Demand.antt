@@ -119,7 +119,7 @@ module _ {G S E B : Type 0} (R : Rule S E B) where
     pub state : a .state ≡ run R (serial lines) (R .fresh)
     -- "Every guard holds at its place in that run."
     pub guards : GuardsHold R (serial lines) (R .fresh)
-    -- "Each accepted event still in progress would find its guard true under every allowed outcome of those before it",
+    -- an event in progress finds its guard true whichever of the undecided ones before it come to be applied,
     pub ahead :
         (before behind : List (Line G E)) (t : ℕ) (g : G) (e : E) (d : Decision) (k : ℕ)
         → lines ≡ before ++ (line t g e (ongoing d) k ∷ behind)
@@ -195,8 +195,8 @@ module _ {G S E B : Type 0} (R : Rule S E B) where
     pub right : Right a (linesFrom [] seen)
     -- every entry has its owner, and every message that is taken is answered by its own entries,
     pub owned : HistoryOwned [] seen
-    -- "Each accepted event that has ended has exactly one entry of its end among the entries of all calls", counted among the entries themselves: whatever transaction, filing,
-    -- event and end are asked for, as many entries have them as lines that have so ended,
+    -- each event that has ended has one entry of its end and no other has any, counted among the entries of all calls: whatever transaction, filing, event and end are asked for,
+    -- as many entries have them as lines that have so ended,
     pub ended :
         (asked : ℕ → G → E → Fate → Bool) → length (keep (endEntry asked) (allEntries seen)) ≡ length (keep (endedLine asked) (linesFrom [] seen))
     -- and line by line: beside each line that has ended stands the number 1, and 0 beside any other. This alone says little, since `note` keeps that number in step with the fate

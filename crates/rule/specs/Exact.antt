@@ -16,7 +16,7 @@ abbrev pub numberOf : ℕ → (ℕ → Bool) → ℕ
 numberOf zero chosen = 0
 numberOf (suc u) chosen = cond (chosen 0) 1 0 + 2 * numberOf u (λ (i : ℕ). chosen (suc i))
 
--- numbers and choices are the same: "2 to the power u outcomes, numbered from 0", by the bits of the number
+-- the numbers below 2 to the power u are the choices among u, each the choice of its own bits
 pub record Choices (u : ℕ) : Type 0 where
   pub below : (chosen : ℕ → Bool) → numberOf u chosen < 2 ^ u
   pub chooses : (chosen : ℕ → Bool) (i : ℕ) → i < u → bit (numberOf u chosen) i ≡ chosen i

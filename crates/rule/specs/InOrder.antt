@@ -7,10 +7,11 @@ use mathlib.Core.Logic.{_↔_, _⊎_}
 use mathlib.Core.Bool.{true, false}
 use mathlib.Core.List.{List, _∷_, _++_}
 use lib.ListN.{length}
-use Rattle.rule.specs.Rule.{Rule, Decision, undecided, Slot, slot, Account}
+use Rattle.rule.specs.Rule.{Rule, Decision, undecided, Slot, slot, Account, Message, newAccount}
 use Rattle.rule.specs.Outcome.{undecidedOf, bit}
 use Rattle.rule.specs.Exact.{chosenState}
-use Rattle.rule.specs.Order.{order}
+use Rattle.rule.specs.Call.{call, reached}
+use Rattle.rule.specs.Order.{order, Sound}
 
 module _ {G S E B : Type 0} (R : Rule S E B) where
   pub record Ordered (a : Account G S E) : Type 0 where
@@ -19,7 +20,7 @@ module _ {G S E B : Type 0} (R : Rule S E B) where
     pub fewHeld : length (a .held) ≤ R .bench
     -- its state is one of those in order,
     pub state : R .fits (a .state) ≡ true
-    -- "its transaction numbers in progress and held all differ": those at any two places,
+    -- the transactions at any two places, in progress or held, differ,
     pub differ :
         (before between behind : List (Slot G E)) (t t′ : ℕ) (g g′ : G) (e e′ : E) (d d′ : Decision)
         → a .progress ++ a .held ≡ before ++ (slot t g e d ∷ (between ++ (slot t′ g′ e′ d′ ∷ behind)))
@@ -29,7 +30,7 @@ module _ {G S E B : Type 0} (R : Rule S E B) where
         (before behind : List (Slot G E)) (t : ℕ) (g : G) (e : E) (d : Decision)
         → a .held ≡ before ++ (slot t g e d ∷ behind)
         → d ≡ undecided
-    -- "each event in progress finds its guard true in every outcome of those before it",
+    -- an event in progress has its guard true in each outcome of the events before it,
     pub guards :
         (before behind : List (Slot G E)) (t : ℕ) (g : G) (e : E) (d : Decision)
         → a .progress ≡ before ++ (slot t g e d ∷ behind)
@@ -39,7 +40,7 @@ module _ {G S E B : Type 0} (R : Rule S E B) where
         (behind : List (Slot G E)) (t : ℕ) (g : G) (e : E) (d : Decision)
         → a .progress ≡ slot t g e d ∷ behind
         → d ≡ undecided
-    -- "and its oldest held request, if any, would stay held": no place is free, or its guard holds in some outcome and fails in some other
+    -- and the oldest held request is one to be held: no place is free, or its guard holds in some outcome and fails in some other
     pub stays :
         (behind : List (Slot G E)) (t : ℕ) (g : G) (e : E) (d : Decision)
         → a .held ≡ slot t g e d ∷ behind
@@ -49,3 +50,10 @@ module _ {G S E B : Type 0} (R : Rule S E B) where
 
   abbrev pub InOrderExactly : Account G S E → Type 0
   InOrderExactly a = (order R a ≡ true) ↔ Ordered a
+
+  -- so is every account that messages lead to from a new one, if the rule's states in order are those that runs lead to; and a call leaves an account in order
+  abbrev pub ReachedInOrder : List (Message G E) → Type 0
+  ReachedInOrder ms = Sound R → Ordered (reached R (newAccount R G) ms)
+
+  abbrev pub CallsKeepOrder : Account G S E → Message G E → Type 0
+  CallsKeepOrder a m = Sound R → Ordered a → Ordered (call R a m .account)

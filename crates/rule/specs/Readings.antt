@@ -2,12 +2,14 @@
 -- Assumes nothing.
 use Prim.Native.Nat.{ℕ}
 use mathlib.Core.Path.{_≡_}
+use mathlib.Core.Logic.{_↔_}
 use mathlib.Core.Bool.{Bool, true, false}
 use mathlib.Core.List.{List, [], _∷_, _++_, map}
-use Rattle.rule.specs.Rule.{undecided, committed, slot, Verdict, voted, noted, applied, dropped}
+use Rattle.rule.specs.Rule.{undecided, committed, slot, Verdict, hold, Entry, voted, noted, applied, dropped}
 use Rattle.rule.specs.Outcome.{undecidedOf}
 use Rattle.rule.specs.History.{Fate, waiting, votedNo, ongoing, wasApplied, wasDropped, Line, line, owners}
 use Rattle.rule.specs.Demand.{endsOf, inProgress, onHold, serial, appliedEvents, course, endedLine, endEntry}
+use Rattle.rule.specs.Written.{OnlyApplied, OnlyDecided}
 
 -- a request waits, was voted no, is undecided, is committed, was applied, was dropped
 abbrev pub fates : List Fate
@@ -50,3 +52,13 @@ module _ {G E B : Type 0} where
   -- the entries of ends
   pub record OneEntry (v : Verdict) (t : ℕ) (g : G) (e : E) (n : ℕ) (b : B) : Type 0 where
     pub ends : map (endEntry anyEnd) (voted v t g e n ∷ noted t g ∷ applied t g e b ∷ dropped t g e ∷ []) ≡ false ∷ false ∷ true ∷ true ∷ []
+
+  -- the entries behind a call's own, wherever they stand among them
+  pub record OnlyThese (xs : List (Entry G E B)) : Type 0 where
+    pub ofApplied :
+        OnlyApplied xs
+        ↔ ((before behind : List (Entry G E B)) (x : Entry G E B) → xs ≡ before ++ (x ∷ behind) → (t : ℕ) × (g : G) × (e : E) × (b : B) × (x ≡ applied t g e b))
+    pub ofDecided :
+        OnlyDecided xs
+        ↔ ((before behind : List (Entry G E B)) (x : Entry G E B) → xs ≡ before ++ (x ∷ behind)
+        → (v : Verdict) × (t : ℕ) × (g : G) × (e : E) × (n : ℕ) × (x ≡ voted v t g e n) × (v ≡ hold → ⊥))

@@ -1,4 +1,4 @@
--- "Given exactly if": each refusal of an account's messages, both ways, said of the call's answer (document 01, "Numbers given when a call is not taken").
+-- "Given exactly if": each refusal of an account's messages, both ways, said of the call's answer (document 01, the list of numbers).
 -- Assumes nothing.
 use Prim.Native.Nat.{ℕ, _≤_}
 use mathlib.Core.Path.{_≡_}

@@ -8,27 +8,32 @@ use mathlib.Core.List.{List, []}
 use lib.ListN.{length}
 use Rattle.rule.specs.Rule.{Rule, Slot, Verdict, accept, reject, hold}
 use Rattle.rule.specs.Outcome.{undecidedOf, bit}
+use Rattle.rule.specs.Weigh.{decideBehind}
 use Rattle.rule.specs.Exact.{chosenState}
 
 module _ {G S E B : Type 0} (R : Rule S E B) where
   -- the vote on an event behind these held requests, over these events in progress, from this applied state
   pub record Vote (ahead progress : List (Slot G E)) (s : S) (e : E) (v : Verdict) (n : ℕ) : Type 0 where
-    -- "held, with 0 outcomes weighed, if a request is already held on the account, or 8 events are in progress;
+    -- behind another held request, or with no place free, it is held with 0;
     pub behind : (ahead ≡ [] → ⊥) → (v ≡ hold) × (n ≡ 0)
     pub full : R .room ≤ length progress → (v ≡ hold) × (n ≡ 0)
-    -- otherwise accepted if its guard holds in every outcome,
+    -- else it is accepted exactly if its guard is true in all outcomes,
     pub accepted :
         ahead ≡ [] → length progress < R .room
         → (v ≡ accept) ↔ ((k : ℕ) → k < 2 ^ undecidedOf progress → R .guard e (chosenState R progress (bit k) s) ≡ true)
-    -- rejected if in none,
+    -- rejected exactly if it is false in all,
     pub rejected :
         ahead ≡ [] → length progress < R .room
         → (v ≡ reject) ↔ ((k : ℕ) → k < 2 ^ undecidedOf progress → R .guard e (chosenState R progress (bit k) s) ≡ false)
-    -- held if in some only.
+    -- held exactly if it is true in one and false in another,
     pub held :
         ahead ≡ [] → length progress < R .room
         → (v ≡ hold)
         ↔ (((k : ℕ) × (k < 2 ^ undecidedOf progress) × (R .guard e (chosenState R progress (bit k) s) ≡ true))
         × ((k : ℕ) × (k < 2 ^ undecidedOf progress) × (R .guard e (chosenState R progress (bit k) s) ≡ false)))
-    -- The entry carries the number of outcomes weighed, which equals 2 to the power u."
+    -- and counts the outcomes, 2 to the power u
     pub weighed : ahead ≡ [] → length progress < R .room → n ≡ 2 ^ undecidedOf progress
+
+  -- and a request is decided so exactly if that is the vote on it
+  abbrev pub VoteExactly : (ahead progress : List (Slot G E)) → S → E → Verdict → ℕ → Type 0
+  VoteExactly ahead progress s e v n = (decideBehind R ahead e s progress ≡ record { verdict = v; weighed = n }) ↔ Vote ahead progress s e v n
