@@ -14,7 +14,7 @@ use lib.Seq.{drop-append-seam}
 use borrow.Author.Tests.{ltb-false}
 use Rattle.rule.specs.Rule as rule
 use Rattle.rule.specs.Call.{refusal}
-use Rattle.rule.proofs.Refusals.{request-refused, commit-refused, abort-refused}
+use Rattle.rule.proofs.Refusals.{gives, request-refused, commit-refused, abort-refused}
 use Rattle.account.specs.declared.Event.{Event}
 use Rattle.account.specs.declared.Account.{Account}
 use Rattle.account.specs.declared.Answer.{Answer as StepAnswer}
@@ -96,9 +96,9 @@ told-read bytes = go (eqb (length bytes) 0)
 
 -- the rule's refusals, and a step's, are 3 at least
 rule-high : (a : RuleAccount) (m : rule.Message ℕ Event) (n : ℕ) → refusal panel a m ≡ some n → 3 ≤ n
-rule-high a (rule.request t g e) n h = ⊎-elim (λ z. omega arith) (λ z. omega arith) (request-refused panel a t g e .only n h)
-rule-high a (rule.commit t g) n h = ⊎-elim (λ z. omega arith) (λ z. ⊎-elim (λ y. omega arith) (λ y. omega arith) z) (commit-refused panel a t g .only n h)
-rule-high a (rule.abort t g) n h = ⊎-elim (λ z. omega arith) (λ z. omega arith) (abort-refused panel a t g .only n h)
+rule-high a (rule.request t g e) n h = ⊎-elim (λ z. omega arith) (λ z. omega arith) (request-refused panel a t g e .only n (gives panel a (rule.request t g e) n .1 h))
+rule-high a (rule.commit t g) n h = ⊎-elim (λ z. omega arith) (λ z. ⊎-elim (λ y. omega arith) (λ y. omega arith) z) (commit-refused panel a t g .only n (gives panel a (rule.commit t g) n .1 h))
+rule-high a (rule.abort t g) n h = ⊎-elim (λ z. omega arith) (λ z. omega arith) (abort-refused panel a t g .only n (gives panel a (rule.abort t g) n .1 h))
 
 step-high : (a : Account) (m : rule.Message ℕ Event) (n : ℕ) → stepOf a m .answer ≡ Step′.Refused n → 3 ≤ n
 step-high a m n h = by (step-refused a m n .0 h)

@@ -180,4 +180,4 @@ calls-bytes (skipped {bytes = bytes} n whole q high w rest) b = (b, calls-bytes 
 calls-bytes (taken {bytes = bytes} whole written q w rest) b = (b, calls-bytes rest (bytes-left bytes whole b))
 
 pub run-demand3 : RunDemand3
-run-demand3 bytes buffer b i l inputs passed c = demand3 inputs (calls-bytes c b) i l
+run-demand3 bytes buffer b i l inputs passed c = demand3 .history inputs (calls-bytes c b) i l

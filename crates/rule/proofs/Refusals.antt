@@ -75,7 +75,7 @@ module _ {G E : Type 0} (t : ℕ) (xs : List (Slot G E)) where
 
 -- a call gives a number exactly if its message is refused so, and then the account stays
 module _ {G S E B : Type 0} (R : Rule S E B) (a : Account G S E) (m : Message G E) where
-  gives : (n : ℕ) → Gives R a m n ↔ (refusal R a m ≡ some n)
+  pub gives : (n : ℕ) → Gives R a m n ↔ (refusal R a m ≡ some n)
   unfolding call
   gives n = by (refusal R a m)
     where
