@@ -14,7 +14,7 @@ use Rattle.account.specs.declared.Event.the-variants.{Close}
 use Rattle.layout.specs.Number.{bytesOf, numberAt}
 use Rattle.layout.specs.Fields.{written}
 use Rattle.layout.specs.Events.{eventOf}
-use Rattle.layout.specs.Plain.{NumbersPlain, BytesHighestFirst, HeadingPlain, EventsPlain, LaidOverPlain, FirstPlain}
+use Rattle.layout.specs.Plain.{NumbersPlain, Literal, BytesHighestFirst, HeadingPlain, EventsPlain, LaidOverPlain, FirstPlain}
 use Rattle.layout.proofs.Numbers.{length-bytesOf, numberAt-one}
 
 pub numbers-plain : NumbersPlain
@@ -28,6 +28,10 @@ numbers-plain bytes at number =
       bytes2 = refl;
       bytes4 = rw (div-div-eq-div-mul number 256 256, div-div-eq-div-mul number 65536 256);
     }
+
+pub literal : Literal
+unfolding bytesOf numberAt
+literal = record { bytes = refl; number = refl }
 
 each-byte : (width number i : ℕ) → i < width → getD (bytesOf width number) i 0 ≡ number / 256 ^ (width - 1 - i) % 256
 unfolding bytesOf

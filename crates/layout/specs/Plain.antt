@@ -42,6 +42,11 @@ pub record Plain (bytes : List ℕ) (at number : ℕ) : Type 0 where
 abbrev pub NumbersPlain : Type 0
 NumbersPlain = (bytes : List ℕ) (at number : ℕ) → Plain bytes at number
 
+-- and once literally, among other bytes
+pub record Literal : Type 0 where
+  pub bytes : bytesOf 4 0x1a2b3c4d ≡ 0x1a ∷ 0x2b ∷ 0x3c ∷ 0x4d ∷ []
+  pub number : numberAt (0xff ∷ 0x1a ∷ 0x2b ∷ 0x3c ∷ 0x4d ∷ 0xee ∷ []) 1 4 ≡ 0x1a2b3c4d
+
 -- in any width: as many bytes as it says, the highest first
 pub record Bytes (width number : ℕ) : Type 0 where
   pub length′ : length (bytesOf width number) ≡ width
