@@ -10,8 +10,8 @@ use lib.Dec.{leb}
 use lib.ListN.{length, getD}
 use Rattle.account.specs.declared.Event.{Event}
 use Rattle.account.specs.declared.Event.the-variants.{Open, Withdraw, Deposit, Close}
-use Rattle.layout.specs.Number.{bytesOf, numberAt}
-use Rattle.layout.specs.Fields.{written, heading}
+use Rattle.layout.specs.Number.{bytesOf, numberAt, AreBytes}
+use Rattle.layout.specs.Fields.{written, heading, lastAccount}
 use Rattle.layout.specs.Events.{eventKind, amountOf, eventOf}
 use Rattle.layout.specs.Answers.{laidOver, test, firstOf}
 
@@ -42,10 +42,16 @@ pub record Plain (bytes : List ℕ) (at number : ℕ) : Type 0 where
 abbrev pub NumbersPlain : Type 0
 NumbersPlain = (bytes : List ℕ) (at number : ℕ) → Plain bytes at number
 
--- and once literally, among other bytes
+-- and once literally, among other bytes; the last account too
 pub record Literal : Type 0 where
   pub bytes : bytesOf 4 0x1a2b3c4d ≡ 0x1a ∷ 0x2b ∷ 0x3c ∷ 0x4d ∷ []
   pub number : numberAt (0xff ∷ 0x1a ∷ 0x2b ∷ 0x3c ∷ 0x4d ∷ 0xee ∷ []) 1 4 ≡ 0x1a2b3c4d
+  pub account : lastAccount ≡ 15
+
+-- a list of numbers below 256 is one of bytes
+pub record Byte : Type 0 where
+  pub none : AreBytes []
+  pub more : (byte : ℕ) (bytes : List ℕ) → byte < 256 → AreBytes bytes → AreBytes (byte ∷ bytes)
 
 -- in any width: as many bytes as it says, the highest first
 pub record Bytes (width number : ℕ) : Type 0 where
