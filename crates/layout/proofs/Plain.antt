@@ -14,7 +14,7 @@ use Rattle.account.specs.declared.Event.the-variants.{Close}
 use Rattle.layout.specs.Number.{bytesOf, numberAt, AreBytes}
 use Rattle.layout.specs.Fields.{written}
 use Rattle.layout.specs.Events.{eventOf}
-use Rattle.layout.specs.Plain.{NumbersPlain, Literal, Byte, BytesHighestFirst, HeadingPlain, EventsPlain, LaidOverPlain, FirstPlain}
+use Rattle.layout.specs.Plain.{NumbersPlain, Byte, BytesHighestFirst, HeadingPlain, EventsPlain, LaidOverPlain}
 use Rattle.layout.proofs.Numbers.{length-bytesOf, numberAt-one}
 
 pub numbers-plain : NumbersPlain
@@ -28,10 +28,6 @@ numbers-plain bytes at number =
       bytes2 = refl;
       bytes4 = rw (div-div-eq-div-mul number 256 256, div-div-eq-div-mul number 65536 256);
     }
-
-pub literal : Literal
-unfolding bytesOf numberAt
-literal = record { bytes = refl; number = refl; account = refl }
 
 pub byte : Byte
 byte = record { none = λ i. lit< tt; more = λ byte bytes h p. go byte bytes h p }
@@ -89,6 +85,3 @@ laid-over-plain bytes buffer =
           let k : i ≡ length bytes + (i - length bytes) = omega arith in
           rw k (getD-append-add bytes (drop (length bytes) buffer) (i - length bytes) 0 ∙ getD-drop (length bytes) buffer (i - length bytes) 0);
     }
-
-pub first-plain : FirstPlain
-first-plain a b c = refl

@@ -3,17 +3,16 @@
 -- Assumes nothing.
 use Prim.Native.Nat.{ℕ, _+_, _*_, _-_, _/_, _%_, _^_, _≤_, _<_}
 use mathlib.Core.Path.{_≡_}
-use mathlib.Core.Bool.{true, false, _&&_}
+use mathlib.Core.Bool.{false, _&&_}
 use mathlib.Core.List.{List, [], _∷_, _++_, map}
-use mathlib.Core.Option.{some}
 use lib.Dec.{leb}
 use lib.ListN.{length, getD}
 use Rattle.account.specs.declared.Event.{Event}
 use Rattle.account.specs.declared.Event.the-variants.{Open, Withdraw, Deposit, Close}
 use Rattle.layout.specs.Number.{bytesOf, numberAt, AreBytes}
-use Rattle.layout.specs.Fields.{written, heading, lastAccount}
+use Rattle.layout.specs.Fields.{written, heading}
 use Rattle.layout.specs.Events.{eventKind, amountOf, eventOf}
-use Rattle.layout.specs.Answers.{laidOver, test, firstOf}
+use Rattle.layout.specs.Answers.{laidOver}
 
 -- the number in 2 bytes, and in 4
 abbrev pub twoAt : (bytes : List ℕ) (at : ℕ) → ℕ
@@ -41,12 +40,6 @@ pub record Plain (bytes : List ℕ) (at number : ℕ) : Type 0 where
 
 abbrev pub NumbersPlain : Type 0
 NumbersPlain = (bytes : List ℕ) (at number : ℕ) → Plain bytes at number
-
--- and once literally, among other bytes; the last account too
-pub record Literal : Type 0 where
-  pub bytes : bytesOf 4 0x1a2b3c4d ≡ 0x1a ∷ 0x2b ∷ 0x3c ∷ 0x4d ∷ []
-  pub number : numberAt (0xff ∷ 0x1a ∷ 0x2b ∷ 0x3c ∷ 0x4d ∷ 0xee ∷ []) 1 4 ≡ 0x1a2b3c4d
-  pub account : lastAccount ≡ 15
 
 -- a list of numbers below 256 is one of bytes
 pub record Byte : Type 0 where
@@ -88,7 +81,3 @@ pub record Over (bytes buffer : List ℕ) : Type 0 where
 
 abbrev pub LaidOverPlain : Type 0
 LaidOverPlain = (bytes buffer : List ℕ) → Over bytes buffer
-
--- of two tests that hold the first is taken, and one that does not hold is passed
-abbrev pub FirstPlain : Type 0
-FirstPlain = (a b c : ℕ) → firstOf (test false a ∷ test true b ∷ test true c ∷ []) ≡ some b
