@@ -33,7 +33,7 @@ digit-test : (number : ℕ) → number < 10 → leb 48 (48 + number) && leb (48 
 digit-test number h = rw (le-leb 48 (48 + number) (omega arith), le-leb (48 + number) 57 (omega arith))
 
 small : (number : ℕ) → number < 10 → Decimal number ((48 + number) ∷ [])
-small number h = record { digits = rw (digit-test number h); value = omega arith; first = omega arith }
+small number h = record { digits = rw (digit-test number h); value = omega arith; first = omega arith; zero = λ z. rw z }
 
 large : (number : ℕ) (text : List ℕ) → 10 ≤ number → Decimal (number / 10) text → Decimal number (text ++ ((48 + number % 10) ∷ []))
 large number text h p =
@@ -41,6 +41,7 @@ large number text h p =
       digits = every-last (λ (digit : ℕ). leb 48 digit && leb digit 57) (48 + number % 10) text (p .digits) (digit-test (number % 10) (omega arith));
       value = rw (value-last, p .value) (omega arith);
       first = λ k. first-stays text ((48 + number % 10) ∷ []) (p .first (omega arith));
+      zero = λ z. absurd (omega arith);
     }
 
 decimals-in : (places number : ℕ) → number < 10 ^ suc places → Decimal number (decimalIn (suc places) number)

@@ -47,14 +47,14 @@ reads-written account e after p =
     ∙ rw (shaped told .fitting, shaped told .numbers)
 
 -- what an entry that was read says of the row by which it was read
-record Taken (found : Option Row) (bytes : List ℕ) (account : ℕ) (e : Entry) (whole : ℕ) : Type 0 where
-  positive : 0 < wholeOf found
-  enough : wholeOf found ≤ length bytes
-  fitting : thenFits (drop 4 (numbersAt (widthsOf found) bytes 0)) ≡ true
-  known : getD (numbersAt (widthsOf found) bytes 0) 2 0 ≤ lastAccount
-  account′ : getD (numbersAt (widthsOf found) bytes 0) 2 0 ≡ account
-  entry : entryOf (numbersAt (widthsOf found) bytes 0) ≡ e
-  length′ : wholeOf found ≡ whole
+pub record Taken (found : Option Row) (bytes : List ℕ) (account : ℕ) (e : Entry) (whole : ℕ) : Type 0 where
+  pub positive : 0 < wholeOf found
+  pub enough : wholeOf found ≤ length bytes
+  pub fitting : thenFits (drop 4 (numbersAt (widthsOf found) bytes 0)) ≡ true
+  pub known : getD (numbersAt (widthsOf found) bytes 0) 2 0 ≤ lastAccount
+  pub account′ : getD (numbersAt (widthsOf found) bytes 0) 2 0 ≡ account
+  pub entry : entryOf (numbersAt (widthsOf found) bytes 0) ≡ e
+  pub length′ : wholeOf found ≡ whole
 
 nothing-found : (e : Entry) (account whole : ℕ) → Nothing ≡ Found e account whole → ⊥
 nothing-found e account whole n = let z : _≡_ {A = ℕ} 0 1 = cc in omega arith
@@ -89,7 +89,7 @@ by-row (some r) bytes account e whole p n =
       length′ = cc (u .1);
     }
 
-taken-of : (bytes : List ℕ) (account : ℕ) (e : Entry) (whole : ℕ) → readOf bytes ≡ Found e account whole
+pub taken-of : (bytes : List ℕ) (account : ℕ) (e : Entry) (whole : ℕ) → readOf bytes ≡ Found e account whole
     → Taken (rowOf entryRows (numberAt bytes 0 1)) bytes account e whole
 unfolding readOf entryRows
 taken-of bytes account e whole n =
@@ -105,7 +105,7 @@ whole-row kind p =
     present (λ (k : ℕ). total (widthsOf (rowOf entryRows k)) ≡ wholeOf (rowOf entryRows k)) entryRows kind (refl, (refl, (refl, (refl, (refl, (refl, tt)))))) p
 
 -- an event that fits is the one of its kind and amount
-event-back : (kind amount : ℕ) → eventFits kind amount ≡ true → (eventKind (eventOf kind amount) ≡ kind) × (amountOf (eventOf kind amount) ≡ amount)
+pub event-back : (kind amount : ℕ) → eventFits kind amount ≡ true → (eventKind (eventOf kind amount) ≡ kind) × (amountOf (eventOf kind amount) ≡ amount)
 unfolding eventOf
 event-back kind amount f = go (eqb kind 1) (eqb kind 2) (eqb kind 3) refl refl refl
   where

@@ -12,3 +12,6 @@ pub mod Lines
 pub mod Refusals
 pub mod Decimals
 pub mod Vectors
+pub mod Plain
+pub mod Finding
+pub mod Printed

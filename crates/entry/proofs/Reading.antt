@@ -34,7 +34,7 @@ numbers-row (some r) bytes numbers p h e a = rw (e, le-ltb (length bytes) (r .wh
 
 -- what follows the heading, by its places
 module _ (bytes : List ℕ) (kind : ℕ) (p : 0 < wholeOf (rowOf entryRows kind)) where
-  fits-read : thenFits (numbersAt (thenOf (rowOf entryRows kind)) bytes 11) ≡ cond (eqb kind 20) true (eventFits (numberAt bytes 11 1) (numberAt bytes 12 4))
+  pub fits-read : thenFits (numbersAt (thenOf (rowOf entryRows kind)) bytes 11) ≡ cond (eqb kind 20) true (eventFits (numberAt bytes 11 1) (numberAt bytes 12 4))
   unfolding rowOf entryRows numbersAt
   fits-read =
       present

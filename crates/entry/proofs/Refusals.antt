@@ -18,6 +18,7 @@ use Rattle.entry.specs.Answers.{longestCall, writeOf, Given}
 use Rattle.entry.specs.Text.{lineOf, longestLine, writeLineOf}
 use Rattle.entry.specs.Refusals.{WriterRefuses, WriterStays, ReadingsApart, LineRefuses, LineStays}
 use Rattle.entry.proofs.Lines.{line-length}
+use Rattle.entry.proofs.Plain.{length-bytes}
 
 -- a writer that refuses with 4 by a test
 refuses : (b : Bool) (bytes buffer : List ℕ) → given (cond b (refusedWith 4 buffer) (wroteOver bytes buffer) .answer) .refusal ≡ cond b (some 4) none
@@ -26,7 +27,7 @@ refuses false bytes buffer = refl
 
 pub writer-refuses : WriterRefuses
 unfolding writeOf
-writer-refuses entries account buffer = go (ltb (length buffer) longestCall)
+writer-refuses entries account buffer = rw (← length-bytes account (listOf entries)) (go (ltb (length buffer) longestCall))
   where
     bytes : List ℕ
     bytes = bytesOfEntries account (listOf entries)

@@ -17,8 +17,9 @@ use Rattle.layout.proofs.Fields.{fit-head, fit-tail}
 use Rattle.entry.specs.Bytes.{entryRows, kindOf, thenNumbers, lengthOfTold, toldBy}
 use Rattle.entry.specs.Answers.{eventFits, thenFits}
 use Rattle.entry.specs.Inverse.{amountIn, weighedIn, balanceIn}
+use Rattle.entry.specs.Plain.{lengthIn}
 
-event-fits : (e : Event) → eventFits (eventKind e) (amountOf e) ≡ true
+pub event-fits : (e : Event) → eventFits (eventKind e) (amountOf e) ≡ true
 event-fits (Open a) = refl
 event-fits (Withdraw a) = refl
 event-fits (Deposit a) = refl
@@ -32,6 +33,8 @@ pub record Shaped (told : Told) : Type 0 where
   pub paired : length (thenOf (rowOf entryRows (kindOf told))) ≡ length (thenNumbers told)
   -- the widths make up the whole length
   pub whole : total (widthsOf (rowOf entryRows (kindOf told))) ≡ lengthOfTold told
+  -- which is the plain one
+  pub length′ : lengthOfTold told ≡ lengthIn told
   -- the kind is a byte, and what fits its widths fits its bytes, both ways
   pub kind : kindOf told < 256 ^ 1
   pub bounds : Fit (thenOf (rowOf entryRows (kindOf told))) (thenNumbers told)
@@ -46,6 +49,7 @@ shaped (Accepted e n) =
       fitting = event-fits e;
       paired = refl;
       whole = refl;
+      length′ = refl;
       kind = lit< tt;
       bounds = λ f. (fit-head (fit-tail f), fit-head (fit-tail (fit-tail f)), lit< tt);
       fits = λ a w b. one (kind-fits e) (one a (one w none));
@@ -56,6 +60,7 @@ shaped (Rejected e n) =
       fitting = event-fits e;
       paired = refl;
       whole = refl;
+      length′ = refl;
       kind = lit< tt;
       bounds = λ f. (fit-head (fit-tail f), fit-head (fit-tail (fit-tail f)), lit< tt);
       fits = λ a w b. one (kind-fits e) (one a (one w none));
@@ -66,6 +71,7 @@ shaped (Held e n) =
       fitting = event-fits e;
       paired = refl;
       whole = refl;
+      length′ = refl;
       kind = lit< tt;
       bounds = λ f. (fit-head (fit-tail f), fit-head (fit-tail (fit-tail f)), lit< tt);
       fits = λ a w b. one (kind-fits e) (one a (one w none));
@@ -76,6 +82,7 @@ shaped Noted =
       fitting = refl;
       paired = refl;
       whole = refl;
+      length′ = refl;
       kind = lit< tt;
       bounds = λ f. (lit< tt, lit< tt, lit< tt);
       fits = λ a w b. none;
@@ -86,6 +93,7 @@ shaped (Applied e n) =
       fitting = event-fits e;
       paired = refl;
       whole = refl;
+      length′ = refl;
       kind = lit< tt;
       bounds = λ f. (fit-head (fit-tail f), lit< tt, fit-head (fit-tail (fit-tail f)));
       fits = λ a w b. one (kind-fits e) (one a (one b none));
@@ -96,6 +104,7 @@ shaped (Dropped e) =
       fitting = event-fits e;
       paired = refl;
       whole = refl;
+      length′ = refl;
       kind = lit< tt;
       bounds = λ f. (fit-head (fit-tail f), lit< tt, lit< tt);
       fits = λ a w b. one (kind-fits e) (one a none);

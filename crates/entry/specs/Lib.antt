@@ -8,3 +8,5 @@ pub mod Decimal
 pub mod Refusals
 pub mod Quoted
 pub mod Vectors
+pub mod Plain
+pub mod Lines

@@ -17,10 +17,10 @@ use Rattle.account.specs.declared.Told.{Told}
 use Rattle.account.specs.declared.Told.the-variants.{Accepted, Rejected, Held, Noted, Applied, Dropped}
 use Rattle.account.specs.declared.Entry.{Entry}
 use Rattle.account.specs.Places.{accountOf}
-use Rattle.account.specs.Steps.{most, stepOf}
+use Rattle.account.specs.Steps.{stepOf}
 use Rattle.layout.specs.Answers.{given, test, firstOf}
 use Rattle.entry.specs.Bytes.{bytesOfEntries, wholesOf, listOf}
-use Rattle.entry.specs.Answers.{longestCall, writeOf}
+use Rattle.entry.specs.Answers.{writeOf}
 
 abbrev pub isApplied : Told → Bool
 isApplied (Accepted e weighed) = false
@@ -51,8 +51,8 @@ CallsSized =
 
 -- no step of any account writes more than 17 entries or 315 bytes
 pub record CallFits (a : Account) (m : rule.Message ℕ Event) : Type 0 where
-  pub count : stepOf a m .entries .count ≤ most
-  pub bytes : (account : ℕ) → length (bytesOfEntries account (listOf (stepOf a m .entries))) ≤ longestCall
+  pub count : stepOf a m .entries .count ≤ 17
+  pub bytes : (account : ℕ) → length (bytesOfEntries account (listOf (stepOf a m .entries))) ≤ 315
 
 abbrev pub CallsFit : Type 0
 CallsFit = (a : Account) (m : rule.Message ℕ Event) → CallFits a m
@@ -61,7 +61,7 @@ CallsFit = (a : Account) (m : rule.Message ℕ Event) → CallFits a m
 abbrev pub CallsRefused : Type 0
 CallsRefused =
     (a : Account) (m : rule.Message ℕ Event) (account : ℕ) (buffer : List ℕ)
-    → given (writeOf (stepOf a m .entries) account buffer .answer) .refusal ≡ firstOf (test (ltb (length buffer) longestCall) 4 ∷ [])
+    → given (writeOf (stepOf a m .entries) account buffer .answer) .refusal ≡ firstOf (test (ltb (length buffer) 315) 4 ∷ [])
 
 -- a deposit of 1 in a place
 abbrev pub deposit : (transaction : ℕ) → rule.Decision → rule.Slot ℕ Event
@@ -83,4 +83,4 @@ fullAccount =
 
 -- the commit of its oldest event writes as much as any call can
 abbrev pub LongestThereIs : Type 0
-LongestThereIs = length (bytesOfEntries 0 (listOf (stepOf fullAccount (rule.commit 1 0) .entries))) ≡ longestCall
+LongestThereIs = length (bytesOfEntries 0 (listOf (stepOf fullAccount (rule.commit 1 0) .entries))) ≡ 315

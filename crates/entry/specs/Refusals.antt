@@ -4,22 +4,22 @@ use Prim.Native.Nat.{ℕ, _<_}
 use mathlib.Core.Path.{_≡_}
 use mathlib.Core.List.{List, [], _∷_}
 use lib.Dec.{ltb}
-use lib.ListN.{length}
+use lib.ListN.{length, take}
 use Rattle.account.specs.declared.Entry.{Entry}
 use Rattle.account.specs.declared.Entries.{Entries}
 use Rattle.layout.specs.Answers.{given, test, firstOf, Stays}
 use Rattle.entry.specs.declared.EntryReading.{EntryReading}
-use Rattle.entry.specs.Bytes.{bytesOfEntries, listOf}
 use Rattle.entry.specs.Answers as Answers′
-use Rattle.entry.specs.Answers.{longestCall, writeOf}
-use Rattle.entry.specs.Text.{longestLine, writeLineOf}
+use Rattle.entry.specs.Answers.{writeOf}
+use Rattle.entry.specs.Plain.{lengthsIn}
+use Rattle.entry.specs.Text.{writeLineOf}
 
 -- 4 exactly if "entry buffer under 315 bytes", or if the entries do not fit; of a step's entries the second never holds (Longest)
 abbrev pub WriterRefuses : Type 0
 WriterRefuses =
     (entries : Entries) (account : ℕ) (buffer : List ℕ)
     → given (writeOf entries account buffer .answer) .refusal
-    ≡ firstOf (test (ltb (length buffer) longestCall) 4 ∷ test (ltb (length buffer) (length (bytesOfEntries account (listOf entries)))) 4 ∷ [])
+    ≡ firstOf (test (ltb (length buffer) 315) 4 ∷ test (ltb (length buffer) (lengthsIn (take (entries .count) (entries .at)))) 4 ∷ [])
 
 abbrev pub WriterStays : Type 0
 WriterStays = (entries : Entries) (account : ℕ) (buffer : List ℕ) → Stays buffer (writeOf entries account buffer)
@@ -31,8 +31,8 @@ ReadingsApart = (r s : EntryReading) → Answers′.given r ≡ Answers′.given
 -- a line is refused exactly if the buffer is too short for the longest
 abbrev pub LineRefuses : Type 0
 LineRefuses =
-    (e : Entry) (account : ℕ) (buffer : List ℕ) → given (writeLineOf e account buffer .answer) .refusal ≡ firstOf (test (ltb (length buffer) longestLine) 4 ∷ [])
+    (e : Entry) (account : ℕ) (buffer : List ℕ) → given (writeLineOf e account buffer .answer) .refusal ≡ firstOf (test (ltb (length buffer) 68) 4 ∷ [])
 
 -- an account's number has 2 bytes
 abbrev pub LineStays : Type 0
-LineStays = (e : Entry) (account : ℕ) (buffer : List ℕ) → account < 65536 → Stays buffer (writeLineOf e account buffer)
+LineStays = (e : Entry) (account : ℕ) (buffer : List ℕ) → account < 65_536 → Stays buffer (writeLineOf e account buffer)

@@ -1,3 +1,4 @@
+pub mod Vectors
 pub mod Stores
 pub mod Numbers
 pub mod Fields

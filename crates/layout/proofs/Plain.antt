@@ -5,16 +5,16 @@ use native.Mathlib.Nat.{add-zero, pow-zero, pow-suc, div-div-eq-div-mul, div-one
 use native.Mathlib.Omega.{arith}
 use mathlib.Core.Path.{_≡_, refl, _∙_}
 use mathlib.Core.Bool.{Bool, true, false, _&&_, true≢false}
-use mathlib.Core.List.{[], _∷_, _++_}
+use mathlib.Core.List.{List, [], _∷_, _++_}
 use borrow.Author.Tests.{ne-eqb, leb-false, ltb-true, ltb-false}
-use lib.Dec.{leb, ltb}
+use lib.Dec.{leb, ltb, lit<}
 use lib.ListN.{length, getD, drop, List·getD-append}
 use lib.Seq.{getD-at, getD-append-add, getD-drop}
 use Rattle.account.specs.declared.Event.the-variants.{Close}
-use Rattle.layout.specs.Number.{bytesOf, numberAt}
+use Rattle.layout.specs.Number.{bytesOf, numberAt, AreBytes}
 use Rattle.layout.specs.Fields.{written}
 use Rattle.layout.specs.Events.{eventOf}
-use Rattle.layout.specs.Plain.{NumbersPlain, BytesHighestFirst, HeadingPlain, EventsPlain, LaidOverPlain, FirstPlain}
+use Rattle.layout.specs.Plain.{NumbersPlain, Byte, BytesHighestFirst, HeadingPlain, EventsPlain, LaidOverPlain}
 use Rattle.layout.proofs.Numbers.{length-bytesOf, numberAt-one}
 
 pub numbers-plain : NumbersPlain
@@ -28,6 +28,13 @@ numbers-plain bytes at number =
       bytes2 = refl;
       bytes4 = rw (div-div-eq-div-mul number 256 256, div-div-eq-div-mul number 65536 256);
     }
+
+pub byte : Byte
+byte = record { none = λ i. lit< tt; more = λ byte bytes h p. go byte bytes h p }
+  where
+    go : (byte : ℕ) (bytes : List ℕ) → byte < 256 → AreBytes bytes → AreBytes (byte ∷ bytes)
+    go byte bytes h p zero = h
+    go byte bytes h p (suc i) = p i
 
 each-byte : (width number i : ℕ) → i < width → getD (bytesOf width number) i 0 ≡ number / 256 ^ (width - 1 - i) % 256
 unfolding bytesOf
@@ -78,6 +85,3 @@ laid-over-plain bytes buffer =
           let k : i ≡ length bytes + (i - length bytes) = omega arith in
           rw k (getD-append-add bytes (drop (length bytes) buffer) (i - length bytes) 0 ∙ getD-drop (length bytes) buffer (i - length bytes) 0);
     }
-
-pub first-plain : FirstPlain
-first-plain a b c = refl

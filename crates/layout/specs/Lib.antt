@@ -4,3 +4,4 @@ pub mod Events
 pub mod Answers
 pub mod Inverse
 pub mod Plain
+pub mod Vectors

@@ -3,17 +3,16 @@
 -- Assumes nothing.
 use Prim.Native.Nat.{ℕ, _+_, _*_, _-_, _/_, _%_, _^_, _≤_, _<_}
 use mathlib.Core.Path.{_≡_}
-use mathlib.Core.Bool.{true, false, _&&_}
+use mathlib.Core.Bool.{false, _&&_}
 use mathlib.Core.List.{List, [], _∷_, _++_, map}
-use mathlib.Core.Option.{some}
 use lib.Dec.{leb}
 use lib.ListN.{length, getD}
 use Rattle.account.specs.declared.Event.{Event}
 use Rattle.account.specs.declared.Event.the-variants.{Open, Withdraw, Deposit, Close}
-use Rattle.layout.specs.Number.{bytesOf, numberAt}
+use Rattle.layout.specs.Number.{bytesOf, numberAt, AreBytes}
 use Rattle.layout.specs.Fields.{written, heading}
 use Rattle.layout.specs.Events.{eventKind, amountOf, eventOf}
-use Rattle.layout.specs.Answers.{laidOver, test, firstOf}
+use Rattle.layout.specs.Answers.{laidOver}
 
 -- the number in 2 bytes, and in 4
 abbrev pub twoAt : (bytes : List ℕ) (at : ℕ) → ℕ
@@ -41,6 +40,11 @@ pub record Plain (bytes : List ℕ) (at number : ℕ) : Type 0 where
 
 abbrev pub NumbersPlain : Type 0
 NumbersPlain = (bytes : List ℕ) (at number : ℕ) → Plain bytes at number
+
+-- a list of numbers below 256 is one of bytes
+pub record Byte : Type 0 where
+  pub none : AreBytes []
+  pub more : (byte : ℕ) (bytes : List ℕ) → byte < 256 → AreBytes bytes → AreBytes (byte ∷ bytes)
 
 -- in any width: as many bytes as it says, the highest first
 pub record Bytes (width number : ℕ) : Type 0 where
@@ -77,7 +81,3 @@ pub record Over (bytes buffer : List ℕ) : Type 0 where
 
 abbrev pub LaidOverPlain : Type 0
 LaidOverPlain = (bytes buffer : List ℕ) → Over bytes buffer
-
--- of two tests that hold the first is taken, and one that does not hold is passed
-abbrev pub FirstPlain : Type 0
-FirstPlain = (a b c : ℕ) → firstOf (test false a ∷ test true b ∷ test true c ∷ []) ≡ some b

@@ -1,0 +1,214 @@
+-- What the reader finds, in plain numbers. An entry that was found was read by the row of its kind, and its event fits; bytes that begin with an
+-- entry are read so; and where none is found one of the tests holds.
+-- Assumes nothing.
+use Prim.Native.Nat.{ℕ, _<_}
+use native.Mathlib.Omega.{arith}
+use mathlib.Core.Path.{_≡_, refl, ap, ap₂, sym, _∙_}
+use mathlib.Core.Bool.{Bool, true, false, cond, not, _&&_, _||_, false≢true}
+use mathlib.Core.List.{List}
+use borrow.Author.Tests.{ltb-true, ltb-false}
+use lib.Dec.{eqb, leb, ltb}
+use lib.ListN.{length, getD}
+use Rattle.account.specs.declared.Event.{Event}
+use Rattle.account.specs.declared.Event.the-variants.{Open, Withdraw, Deposit, Close}
+use Rattle.account.specs.declared.Told.{Told}
+use Rattle.account.specs.declared.Told.the-variants.{Accepted, Rejected, Held, Noted, Applied, Dropped}
+use Rattle.account.specs.declared.Entry.{Entry}
+use Rattle.layout.specs.Number.{numberAt}
+use Rattle.layout.specs.Fields.{rowOf, wholeOf, numbersAt}
+use Rattle.layout.specs.Events.{eventKind, amountOf, eventOf}
+use Rattle.layout.specs.Plain.{twoAt, fourAt}
+use Rattle.layout.proofs.Tables.{present}
+use Rattle.layout.proofs.Events.{event-is}
+use Rattle.layout.proofs.Plain.{numbers-plain}
+use Rattle.entry.specs.declared.EntryReading.{EntryReading}
+use Rattle.entry.specs.declared.EntryReading.the-variants.{Found, Nothing}
+use Rattle.entry.specs.Bytes.{entryRows, kindOf, toldBy, lengthOfTold}
+use Rattle.entry.specs.Answers.{given, eventFits, readOf, numberAfter, entryAt}
+use Rattle.entry.specs.Plain.{lengthIn, EventStands, Stands, Begins, ReaderFinds, kindLength, noEntry, nothing, ReaderFindsNone}
+use Rattle.entry.proofs.Shapes.{shaped, event-fits}
+use Rattle.entry.proofs.Reading.{fits-read, read-unknown, read-short, read-account, read-fitting}
+use Rattle.entry.proofs.Inverse.{event-back, taken-of}
+use Rattle.entry.proofs.Refusals.{readings-apart}
+use Rattle.entry.proofs.Plain.{lengths-plain}
+
+-- an event stands where its kind and its amount do
+event-stands : (bytes : List ℕ) (e : Event) → (getD bytes 11 0 ≡ eventKind e) × (fourAt bytes 12 ≡ amountOf e) → EventStands bytes e
+event-stands bytes (Open a) p = p
+event-stands bytes (Withdraw a) p = p
+event-stands bytes (Deposit a) p = p
+event-stands bytes Close p = p
+
+event-parts : (bytes : List ℕ) (e : Event) → EventStands bytes e → (getD bytes 11 0 ≡ eventKind e) × (fourAt bytes 12 ≡ amountOf e)
+event-parts bytes (Open a) p = p
+event-parts bytes (Withdraw a) p = p
+event-parts bytes (Deposit a) p = p
+event-parts bytes Close p = p
+
+-- the event that the bytes hold
+abbrev eventAt : List ℕ → Event
+eventAt bytes = eventOf (numberAt bytes 11 1) (numberAt bytes 12 4)
+
+-- whether what follows the heading fits
+abbrev fitsAt : (bytes : List ℕ) (kind : ℕ) → Bool
+fitsAt bytes kind = cond (eqb kind 20) true (eventFits (numberAt bytes 11 1) (numberAt bytes 12 4))
+
+event-read : (bytes : List ℕ) → eventFits (numberAt bytes 11 1) (numberAt bytes 12 4) ≡ true → EventStands bytes (eventAt bytes)
+event-read bytes f =
+    let b = event-back (numberAt bytes 11 1) (numberAt bytes 12 4) f in
+    event-stands bytes (eventAt bytes) (sym (numbers-plain bytes 11 0 .read1) ∙ sym (b .0), sym (numbers-plain bytes 12 0 .read4) ∙ sym (b .1))
+
+-- what the bytes' kind tells stands in them, and is as long as the kind says
+module _ (bytes : List ℕ) (kind : ℕ) (p : 0 < wholeOf (rowOf entryRows kind)) where
+  stands-by : kind ≡ numberAt bytes 0 1 → fitsAt bytes kind ≡ true → Stands bytes (toldBy kind (eventAt bytes) (numberAfter bytes kind))
+  unfolding rowOf entryRows toldBy
+  stands-by e f =
+      let first : (k : ℕ) → k ≡ numberAt bytes 0 1 → getD bytes 0 0 ≡ k = λ k e. sym (numbers-plain bytes 0 0 .read1) ∙ sym e in
+      let two = sym (numbers-plain bytes 16 0 .read2) in
+      let four = sym (numbers-plain bytes 16 0 .read4) in
+      present
+      (λ (k : ℕ). k ≡ numberAt bytes 0 1 → fitsAt bytes k ≡ true → Stands bytes (toldBy k (eventAt bytes) (numberAfter bytes k)))
+      entryRows kind (
+        (λ e f. (first 17 e, event-read bytes f, two)),
+        (
+          (λ e f. (first 18 e, event-read bytes f, two)),
+          (
+            (λ e f. (first 19 e, event-read bytes f, two)),
+            ((λ e f. first 20 e), ((λ e f. (first 21 e, event-read bytes f, four)), ((λ e f. (first 22 e, event-read bytes f)), tt))),
+          ),
+        ),
+      )
+      p e f
+
+  length-by : wholeOf (rowOf entryRows kind) ≡ lengthIn (toldBy kind (eventAt bytes) (numberAfter bytes kind))
+  unfolding rowOf entryRows toldBy
+  length-by =
+      present
+      (λ (k : ℕ). wholeOf (rowOf entryRows k) ≡ lengthIn (toldBy k (eventAt bytes) (numberAfter bytes k)))
+      entryRows kind (refl, (refl, (refl, (refl, (refl, (refl, tt)))))) p
+
+-- what was found stands at the beginning
+found-begins : (bytes : List ℕ) (e : Entry) (account whole : ℕ) → readOf bytes ≡ Found e account whole → Begins bytes e account whole
+unfolding numbersAt
+found-begins bytes e account whole r =
+    let kind = numberAt bytes 0 1 in
+    let n = numbers-plain bytes in
+    let t = taken-of bytes account e whole r in
+    let f : fitsAt bytes kind ≡ true = sym (fits-read bytes kind (t .positive)) ∙ t .fitting in
+    let q = read-fitting bytes kind (wholeOf (rowOf entryRows kind)) refl refl (λ z. omega (arith, t .positive)) (t .enough) (t .known) in
+    let same : Found (entryAt bytes kind) (numberAt bytes 5 2) (wholeOf (rowOf entryRows kind)) ≡ Found e account whole = sym (rw f at q) ∙ r in
+    let entry : entryAt bytes kind ≡ e = cc same in
+    let told : toldBy kind (eventAt bytes) (numberAfter bytes kind) ≡ e .told = ap (λ (x : Entry). x .told) entry in
+    record {
+      stands = rw told at (stands-by bytes kind (t .positive) refl f);
+      transaction = sym (n 1 0 .read4) ∙ ap (λ (x : Entry). x .transaction) entry;
+      account′ = sym (n 5 0 .read2) ∙ t .account′;
+      known = rw (n 5 0 .read2) at (t .known);
+      second = sym (n 7 0 .read4) ∙ ap (λ (x : Entry). x .second) entry;
+      length′ = sym (t .length′) ∙ length-by bytes kind (t .positive) ∙ ap lengthIn told;
+      enough = rw (t .length′) at (t .enough);
+    }
+
+-- what stands in the bytes is told by its kind, and fits
+record Parts (bytes : List ℕ) (told : Told) : Type 0 where
+  kind : getD bytes 0 0 ≡ kindOf told
+  told′ : toldBy (kindOf told) (eventAt bytes) (numberAfter bytes (kindOf told)) ≡ told
+  fitting : fitsAt bytes (kindOf told) ≡ true
+
+event-at : (bytes : List ℕ) (e : Event) → EventStands bytes e → (eventAt bytes ≡ e) × (eventFits (numberAt bytes 11 1) (numberAt bytes 12 4) ≡ true)
+event-at bytes e s =
+    let p = event-parts bytes e s in
+    let k : numberAt bytes 11 1 ≡ eventKind e = numbers-plain bytes 11 0 .read1 ∙ p .0 in
+    let a : numberAt bytes 12 4 ≡ amountOf e = numbers-plain bytes 12 0 .read4 ∙ p .1 in
+    rw (k, a) (event-is e, event-fits e)
+
+parts : (bytes : List ℕ) (told : Told) → Stands bytes told → Parts bytes told
+unfolding toldBy
+parts bytes (Accepted e n) s =
+    let v = event-at bytes e (s .1) in record { kind = s .0; told′ = ap₂ Accepted (v .0) (numbers-plain bytes 16 0 .read2 ∙ s .2); fitting = v .1 }
+parts bytes (Rejected e n) s =
+    let v = event-at bytes e (s .1) in record { kind = s .0; told′ = ap₂ Rejected (v .0) (numbers-plain bytes 16 0 .read2 ∙ s .2); fitting = v .1 }
+parts bytes (Held e n) s =
+    let v = event-at bytes e (s .1) in record { kind = s .0; told′ = ap₂ Held (v .0) (numbers-plain bytes 16 0 .read2 ∙ s .2); fitting = v .1 }
+parts bytes Noted s = record { kind = s; told′ = refl; fitting = refl }
+parts bytes (Applied e n) s =
+    let v = event-at bytes e (s .1) in record { kind = s .0; told′ = ap₂ Applied (v .0) (numbers-plain bytes 16 0 .read4 ∙ s .2); fitting = v .1 }
+parts bytes (Dropped e) s = let v = event-at bytes e (s .1) in record { kind = s .0; told′ = ap Dropped (v .0); fitting = v .1 }
+
+begins-found : (bytes : List ℕ) (e : Entry) (account whole : ℕ) → Begins bytes e account whole → readOf bytes ≡ Found e account whole
+unfolding lengthOfTold
+begins-found bytes e account whole b =
+    let told = e .told in
+    let kind = kindOf told in
+    let n = numbers-plain bytes in
+    let q = parts bytes told (b .stands) in
+    let w : whole ≡ lengthOfTold told = b .length′ ∙ sym (shaped told .length′) in
+    let z : 0 < whole = rw (w, ← shaped told .whole) (omega arith) in
+    let entry : entryAt bytes kind ≡ e = rw (n 1 0 .read4, n 7 0 .read4, b .transaction, b .second, q .told′) in
+    read-fitting bytes kind whole (sym (q .kind) ∙ sym (n 0 0 .read1)) w (λ y. omega arith) (b .enough) (rw (n 5 0 .read2) (b .known))
+    ∙ rw (q .fitting, entry, n 5 0 .read2, b .account′)
+
+pub reader-finds : ReaderFinds
+reader-finds bytes e account whole = (
+  (λ g. found-begins bytes e account whole (readings-apart (readOf bytes) (Found e account whole) g)),
+  (λ b. ap given (begins-found bytes e account whole b)),
+)
+
+-- ---- where nothing is found
+
+abbrev isNothing : EntryReading → Bool
+isNothing (Found e account whole) = false
+isNothing Nothing = true
+
+-- what follows the heading does not fit
+unfit : (t a b c : Bool) (x : EntryReading) → isNothing x ≡ false
+    → isNothing (cond (cond t true (a && (not b || c))) x Nothing) ≡ (not t && (not a || (b && not c)))
+unfit true a b c x h = h
+unfit false false b c x h = refl
+unfit false true false c x h = h
+unfit false true true true x h = h
+unfit false true true false x h = refl
+
+positive : (a b c : Bool) → 0 < cond a 18 (cond b 11 (cond c 20 16))
+positive true b c = omega arith
+positive false true c = omega arith
+positive false false true = omega arith
+positive false false false = omega arith
+
+none-by : (bytes : List ℕ) → isNothing (readOf bytes) ≡ noEntry bytes
+none-by bytes = go (leb 17 kind && leb kind 22) (ltb (length bytes) (kindLength kind)) (ltb 15 (twoAt bytes 5)) refl refl refl
+  where
+    kind : ℕ
+    kind = getD bytes 0 0
+
+    k : kind ≡ numberAt bytes 0 1
+    k = sym (numbers-plain bytes 0 0 .read1)
+
+    whole : (a : Bool) → leb 17 kind && leb kind 22 ≡ a → cond a (kindLength kind) 0 ≡ wholeOf (rowOf entryRows kind)
+    whole a p = sym (rw p at (lengths-plain kind))
+
+    go : (a b d : Bool) → leb 17 kind && leb kind 22 ≡ a → ltb (length bytes) (kindLength kind) ≡ b → ltb 15 (twoAt bytes 5) ≡ d
+        → isNothing (readOf bytes)
+        ≡ (not a || (b || (d || (not (eqb kind 20)
+        && (not (leb 1 (getD bytes 11 0) && leb (getD bytes 11 0) 4) || (eqb (getD bytes 11 0) 4 && not (eqb (fourAt bytes 12) 0)))))))
+    go false b d p q r = rw (read-unknown bytes kind 0 k (whole false p) refl)
+    go true true d p q r = rw (read-short bytes kind (kindLength kind) k (whole true p) (ltb-true (length bytes) (kindLength kind) q))
+    go true false true p q r =
+        rw (read-account bytes kind (kindLength kind) k (whole true p) (ltb-false (length bytes) (kindLength kind) q) (rw (numbers-plain bytes 5 0 .read2) (ltb-true 15 (twoAt bytes 5) r)))
+    go true false false p q r =
+        let z : 0 < kindLength kind = positive (leb kind 19) (eqb kind 20) (eqb kind 21) in
+        let e = read-fitting bytes kind (kindLength kind) k (whole true p) (λ n. omega arith) (ltb-false (length bytes) (kindLength kind) q) (rw (numbers-plain bytes 5 0 .read2) (ltb-false 15 (twoAt bytes 5) r)) in
+        let found = Found (entryAt bytes kind) (numberAt bytes 5 2) (kindLength kind) in
+        let event = numberAt bytes 11 1 in
+        rw (e, ← numbers-plain bytes 11 0 .read1, ← numbers-plain bytes 12 0 .read4)
+        (unfit (eqb kind 20) (leb 1 event && leb event 4) (eqb event 4) (eqb (numberAt bytes 12 4) 0) found refl)
+
+pub reader-finds-none : ReaderFindsNone
+reader-finds-none bytes = (
+  (λ g. sym (none-by bytes) ∙ ap isNothing (readings-apart (readOf bytes) Nothing g)),
+  (λ h. go (readOf bytes) (none-by bytes ∙ h)),
+)
+  where
+    go : (x : EntryReading) → isNothing x ≡ true → given x ≡ nothing
+    go (Found e account whole) h = absurd (false≢true h)
+    go Nothing h = refl
