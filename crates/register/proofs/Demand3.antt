@@ -49,7 +49,7 @@ use Rattle.register.specs.declared.Answer.the-variants.{Refused}
 use Rattle.register.specs.Register.{freshRegister, nowhere, accountAt, ruleMessage, stepBy}
 use Rattle.register.specs.Call.{Result, refusalOf, writtenOf, refusedWith, afterStep, afterMessage, afterReading, callOf}
 use Rattle.register.specs.Fits.{EventFits, CommitFits, StateFits, BalanceFits}
-use Rattle.register.specs.Sequence.{Input, after, exchanges, answerIn, seenOf, seenBy, entriesIn, Whole, EachWhole}
+use Rattle.register.specs.Sequence.{Input, after, exchanges, answerIn, seenOf, seenBy, entriesIn, OnlyEntries, EachOnlyEntries}
 use Rattle.register.specs.Demands.{ByteStrings, Demand3}
 use Rattle.entry.proofs.CallFits.{listed}
 use Rattle.register.proofs.ReadAs.{account-read}
@@ -166,13 +166,13 @@ Sees r seen = (length (r .accounts) ≡ 16) × ((i : ℕ) → i < 16 → Keeps (
 
 call-kept : (r : Register) (bytes buffer : List ℕ) (seen : ℕ → List (Seen ℕ Event ℕ)) → AreBytes bytes → Sees r seen
     → Sees (callOf r bytes buffer .register) (λ (i : ℕ). seen i ++ seenOf i (callOf r bytes buffer .answer) (callOf r bytes buffer .buffer) (readOf bytes))
-    × Whole (record { message = bytes; answer = callOf r bytes buffer .answer; buffer = callOf r bytes buffer .buffer })
+    × OnlyEntries (record { message = bytes; answer = callOf r bytes buffer .answer; buffer = callOf r bytes buffer .buffer })
 unfolding callOf Sees Kept
 call-kept r bytes buffer seen b h = by (readOf bytes) refl
   where
     by : (x : Reading) → readOf bytes ≡ x
         → Sees (afterReading r buffer x .register) (λ (i : ℕ). seen i ++ seenOf i (afterReading r buffer x .answer) (afterReading r buffer x .buffer) x)
-        × Whole (record { message = bytes; answer = afterReading r buffer x .answer; buffer = afterReading r buffer x .buffer })
+        × OnlyEntries (record { message = bytes; answer = afterReading r buffer x .answer; buffer = afterReading r buffer x .buffer })
     by (Reading′.Refused n) q = ((h .0, λ i l. rw (append-nil (seen i)) (h .1 i l)), λ e. let z : _≡_ {A = ℕ} 0 1 = cc in absurd (omega arith))
     by (Reading′.Message m consumed) q =
         ((kept .0, λ i l. named i l (eqb (headingOf m .account) i) refl), λ e. rw (← account-read bytes m consumed q) (kept .3 e))
@@ -192,7 +192,7 @@ call-kept r bytes buffer seen b h = by (readOf bytes) refl
 
 -- A sequence of calls.
 calls-kept : (inputs : List Input) (r : Register) (seen : ℕ → List (Seen ℕ Event ℕ)) → ByteStrings inputs → Sees r seen
-    → Sees (after r inputs) (λ (i : ℕ). seen i ++ seenBy i (exchanges r inputs)) × EachWhole (exchanges r inputs)
+    → Sees (after r inputs) (λ (i : ℕ). seen i ++ seenBy i (exchanges r inputs)) × EachOnlyEntries (exchanges r inputs)
 unfolding Sees
 calls-kept [] r seen b h = ((h .0, λ i l. rw (append-nil (seen i)) (h .1 i l)), tt)
 calls-kept (x ∷ inputs) r seen b h =

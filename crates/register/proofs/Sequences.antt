@@ -20,7 +20,7 @@ use Rattle.register.specs.declared.Answer.the-variants.{Refused, Taken}
 use Rattle.register.specs.Register.{ruleMessage}
 use Rattle.register.specs.Call.{refusalOf, callOf}
 use Rattle.register.specs.Refusals.{accountIn}
-use Rattle.register.specs.Sequence.{Input, Exchange, after, exchanges, answerIn, seenOf, seenBy, entriesIn, writtenIn, Calls, Sight}
+use Rattle.register.specs.Sequence.{Input, Exchange, after, exchanges, answerIn, seenOf, seenBy, entriesIn, writtenIn, OneMoreCall, Sight}
 use Rattle.register.proofs.ReadAs.{account-read}
 
 after-append : (xs ys : List Input) (r : Register) → after r (xs ++ ys) ≡ after (after r xs) ys
@@ -33,7 +33,7 @@ exchanges-append (x ∷ xs) ys r =
     let called = callOf r (x .message) (x .buffer) in
     ap (λ (l : List Exchange). record { message = x .message; answer = called .answer; buffer = called .buffer } ∷ l) (exchanges-append xs ys (called .register))
 
-pub each-call : (r : Register) (x : Input) (xs : List Input) → Calls r x xs
+pub each-call : (r : Register) (x : Input) (xs : List Input) → OneMoreCall r x xs
 each-call r x xs =
     record {
       none-after = refl;

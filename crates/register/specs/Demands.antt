@@ -29,7 +29,7 @@ use Rattle.entry.specs.Bytes.{bytesOfEntries}
 use Rattle.register.specs.declared.Register.{Register}
 use Rattle.register.specs.Register.{freshRegister, ruleMessage, outlookIn}
 use Rattle.register.specs.Call.{Result, refusalOf, consumedOf, writtenOf, callOf}
-use Rattle.register.specs.Sequence.{Input, Exchange, after, exchanges, seenBy, EachWhole, Calls, Sight}
+use Rattle.register.specs.Sequence.{Input, Exchange, after, exchanges, seenBy, EachOnlyEntries, OneMoreCall, Sight}
 use Rattle.register.specs.Seconds.{OtherSeconds, SameExchanges}
 use Rattle.register.specs.Refusals.{accountIn, standingAt, CallRefuses, OutlookTells}
 use Rattle.register.specs.Own.{EachOwnEntry, Brings}
@@ -109,16 +109,19 @@ pub record Demand2 : Type 0 where
   pub read-written : WritesRead
   pub seconds : SecondsNeverMatter
 
+-- what demand 3 says of the account of a number after these calls of a fresh register, by what it has seen of them
+abbrev pub SerialPast : List Input → (account : ℕ) → Type 0
+SerialPast inputs i = rule.Demand3 panel (listsOf (standingAt (after freshRegister inputs) i)) (seenBy i (exchanges freshRegister inputs))
+
 -- Demand 3: a fresh register after any sequence of calls, some of which may be refused.
 pub record Demand3 : Type 0 where
   -- each of the sixteen accounts, by what it has seen;
   pub history :
-      (inputs : List Input) → ByteStrings inputs → (i : ℕ) → i < 16
-      → rule.Demand3 panel (listsOf (standingAt (after freshRegister inputs) i)) (seenBy i (exchanges freshRegister inputs))
+      (inputs : List Input) → ByteStrings inputs → (i : ℕ) → i < 16 → SerialPast inputs i
   -- what is seen: each call on the register that the one before left, by the account that it names; and of what it wrote every byte
-  pub calls : (r : Register) (x : Input) (xs : List Input) → Calls r x xs
+  pub calls : (r : Register) (x : Input) (xs : List Input) → OneMoreCall r x xs
   pub sight : (i : ℕ) (xs : List Exchange) (x : Exchange) → Sight i xs x
-  pub whole : (inputs : List Input) → ByteStrings inputs → EachWhole (exchanges freshRegister inputs)
+  pub whole : (inputs : List Input) → ByteStrings inputs → EachOnlyEntries (exchanges freshRegister inputs)
   -- every account is in order, so that 5 is given neither by a call nor by the outcome question
   pub order : (inputs : List Input) (i : ℕ) → i < 16 → orderOf (standingAt (after freshRegister inputs) i) ≡ true
   pub never-five : (inputs : List Input) (bytes buffer : List ℕ) → refusalOf (callOf (after freshRegister inputs) bytes buffer .answer) ≡ some 5 → ⊥

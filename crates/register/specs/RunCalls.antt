@@ -6,16 +6,14 @@ use mathlib.Core.Path.{_≡_}
 use mathlib.Core.Logic.{_⊎_}
 use mathlib.Core.List.{List, [], _∷_, _++_}
 use lib.ListN.{length, take, drop}
-use Rattle.rule.specs.Demand as rule
-use Rattle.account.specs.Panel.{panel}
-use Rattle.account.specs.Places.{listsOf}
 use Rattle.layout.specs.Number.{AreBytes}
 use Rattle.register.specs.declared.Register.{Register}
 use Rattle.register.specs.declared.Answer.{Answer}
 use Rattle.register.specs.declared.Answer.the-variants.{Refused, Taken}
-use Rattle.register.specs.Register.{freshRegister, accountAt}
-use Rattle.register.specs.Sequence.{Input, Exchange, after, exchanges, seenBy}
+use Rattle.register.specs.Register.{freshRegister}
+use Rattle.register.specs.Sequence.{Input, Exchange, exchanges}
 use Rattle.register.specs.Whole.{Whole}
+use Rattle.register.specs.Demands.{SerialPast}
 use Rattle.register.specs.Run.{Run, runOf, numbersOf}
 
 -- The calls of a run: the bytes and the buffer that are left, what is handed to the calls from there on, what is seen of them, and how many bytes they pass.
@@ -75,4 +73,4 @@ abbrev pub RunDemand3 : Type 0
 RunDemand3 =
     (bytes buffer : List ℕ) → AreBytes bytes → (i : ℕ) → i < 16 → (inputs : List Input) (passed : ℕ)
     → Calls bytes buffer inputs (exchanges freshRegister inputs) passed
-    → rule.Demand3 panel (listsOf (accountAt (after freshRegister inputs) i)) (seenBy i (exchanges freshRegister inputs))
+    → SerialPast inputs i

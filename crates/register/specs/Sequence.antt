@@ -101,15 +101,15 @@ abbrev pub writtenIn : Exchange → List ℕ
 writtenIn x = take (writtenOf (x .answer)) (x .buffer)
 
 -- they are all of the entries' bytes and nothing else: the entries read back from them, each under the account that the message names, have just these bytes
-abbrev pub Whole : Exchange → Type 0
-Whole x = refusalOf (x .answer) ≡ none → writtenIn x ≡ bytesOfEntries (accountIn (x .message)) (map entryOf (entriesIn (writtenIn x)))
+abbrev pub OnlyEntries : Exchange → Type 0
+OnlyEntries x = refusalOf (x .answer) ≡ none → writtenIn x ≡ bytesOfEntries (accountIn (x .message)) (map entryOf (entriesIn (writtenIn x)))
 
-abbrev pub EachWhole : List Exchange → Type 0
-EachWhole [] = Unit {0}
-EachWhole (x ∷ xs) = Whole x × EachWhole xs
+abbrev pub EachOnlyEntries : List Exchange → Type 0
+EachOnlyEntries [] = Unit {0}
+EachOnlyEntries (x ∷ xs) = OnlyEntries x × EachOnlyEntries xs
 
 -- a sequence is its calls, one after the other, each on the register that the one before left
-pub record Calls (r : Register) (x : Input) (xs : List Input) : Type 0 where
+pub record OneMoreCall (r : Register) (x : Input) (xs : List Input) : Type 0 where
   pub none-after : after r [] ≡ r
   pub last-after : after r (xs ++ (x ∷ [])) ≡ callOf (after r xs) (x .message) (x .buffer) .register
   pub none-seen : exchanges r [] ≡ []
