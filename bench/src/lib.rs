@@ -33,6 +33,8 @@ pub mod tally;
 
 // The benchmark.
 pub mod contention;
+pub mod limit;
 pub mod measure;
+pub mod plot;
 pub mod proved;
 pub mod workload;
