@@ -116,7 +116,9 @@ impl Account {
             return;
         }
         let mut outlook = Outlook::of(self.life, self.balance);
-        self.progress[..self.in_progress as usize].iter().for_each(|place| outlook.take_up(*place));
+        for place in &self.progress[..self.in_progress as usize] {
+            outlook.take_up(*place);
+        }
         let mut decided = 0;
         while decided < self.held as usize && (self.in_progress as usize) < PLACES {
             let request = self.holding[decided];
@@ -184,30 +186,45 @@ fn in_turn(progress: &[Place], holding: &[Place], mut outlook: Outlook) -> Optio
     if progress.first().is_some_and(|oldest| oldest.committed()) {
         return None;
     }
-    for place in progress {
-        if outlook.weigh(*place) != Vote::Accepted {
-            return None;
-        }
-        outlook.take_up(*place);
+    if !progress.iter().all(|place| outlook.take_up(*place)) {
+        return None;
     }
     let stays = |oldest: &Place| progress.len() == PLACES || outlook.weigh(*oldest) == Vote::Held;
     let kept = holding.iter().all(|place| !place.committed()) && holding.first().is_none_or(stays);
     kept.then_some(outlook)
 }
 
-/// Whether the transactions all differ.
+/// Whether the transactions all differ. Unused places get numbers that no transaction is and no two have, so that the
+/// same pairs are compared whatever is used.
 fn all_differ(progress: &[Place], holding: &[Place]) -> bool {
-    let mut transactions = [0; 2 * PLACES];
-    let mut count = 0;
-    for place in progress.iter().chain(holding) {
-        let transaction = place.transaction();
-        if transactions[..count].contains(&transaction) {
-            return false;
-        }
-        transactions[count] = transaction;
-        count += 1;
+    if progress.len() + holding.len() < 2 {
+        return true;
     }
-    true
+    let first = numbers(progress, 1 << 32);
+    if holding.is_empty() {
+        return !repeats(&first);
+    }
+    let second = numbers(holding, 1 << 33);
+    let across = second.iter().any(|number| first.iter().fold(false, |same, other| same | (number == other)));
+    !(across || repeats(&first) || repeats(&second))
+}
+
+/// The transactions of a row, and for its unused places the numbers from `unused` on.
+fn numbers(row: &[Place], unused: u64) -> [u64; PLACES] {
+    let mut numbers: [u64; PLACES] = std::array::from_fn(|at| unused + at as u64);
+    numbers.iter_mut().zip(row).for_each(|(number, place)| *number = place.transaction().into());
+    numbers
+}
+
+/// Whether a number stands there twice.
+fn repeats(numbers: &[u64; PLACES]) -> bool {
+    let mut same = false;
+    for at in 1..PLACES {
+        for other in 0..at {
+            same |= numbers[at] == numbers[other];
+        }
+    }
+    same
 }
 
 /// Takes a place out; those behind it move up.
@@ -221,10 +238,12 @@ fn take_out(places: &mut [Place; PLACES], used: &mut u32, at: usize) -> Place {
 
 /// Takes the first places out, so many; those behind them move up.
 fn move_up(places: &mut [Place; PLACES], used: &mut u32, count: usize) {
-    if count == 0 {
-        return;
+    let before = PLACES.min(*used as usize);
+    for at in count..before {
+        places[at - count] = places[at];
     }
-    places.copy_within(count.., 0);
-    places[PLACES - count..].fill(Place::BLANK);
+    for place in &mut places[before - count..before] {
+        *place = Place::BLANK;
+    }
     *used -= count as u32;
 }

@@ -4,7 +4,7 @@
 //! withdrawal and no deposit that is open to choice, and the highest the other way about. A guard asks for a life and
 //! for a balance on one side of a line: the two ends tell whether it holds everywhere, somewhere or nowhere.
 
-use super::place::{Place, CLOSE, DEPOSIT, OPEN, WITHDRAW};
+use super::place::{Place, DEPOSIT, OPEN, WITHDRAW};
 use crate::rules::LIMIT;
 
 /// The three lives, each a bit.
@@ -61,21 +61,31 @@ impl Outlook {
         }
     }
 
-    /// Takes up an event whose guard holds in every outcome: applied where it is committed, else applied or not.
-    pub fn take_up(&mut self, place: Place) {
-        let (amount, committed) = (place.amount(), place.committed());
-        self.undecided += u32::from(!committed);
-        let left = if committed { 0 } else { self.lives };
+    /// Takes up an event: applied where it is committed, else applied or not. Says whether its guard holds in every
+    /// outcome; where it does not, the outlook says nothing any more.
+    pub fn take_up(&mut self, place: Place) -> bool {
+        let amount = place.amount();
+        let (surely, left) = if place.committed() { (amount, 0) } else { (0, self.lives) };
+        self.undecided += u32::from(!place.committed());
+        let before = *self;
         match place.event() {
-            OPEN => *self = Outlook { lives: left | OPENED, lowest: amount, highest: amount, ..*self },
-            CLOSE => self.lives = left | CLOSED,
             WITHDRAW => {
-                self.lowest -= amount;
-                self.highest -= if committed { amount } else { 0 };
+                self.lowest = before.lowest.wrapping_sub(amount);
+                self.highest = before.highest.wrapping_sub(surely);
+                before.lives == OPENED && amount.wrapping_sub(1) < before.lowest
+            }
+            DEPOSIT => {
+                self.lowest = before.lowest.wrapping_add(surely);
+                self.highest = before.highest.wrapping_add(amount);
+                before.lives == OPENED && amount.wrapping_sub(1) < LIMIT - before.highest
+            }
+            OPEN => {
+                (self.lives, self.lowest, self.highest) = (left | OPENED, amount, amount);
+                before.lives == NEW && amount <= LIMIT
             }
             _ => {
-                self.highest += amount;
-                self.lowest += if committed { amount } else { 0 };
+                self.lives = left | CLOSED;
+                before.lives == OPENED
             }
         }
     }

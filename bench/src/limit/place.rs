@@ -7,8 +7,8 @@ pub const DEPOSIT: u8 = 3;
 pub const CLOSE: u8 = 4;
 
 /// What stands in a place: the first sixteen bytes of its entries, highest first, as one number. They are the entry's
-/// kind, transaction (4), account (2), second (4), event kind and amount (4). In a place the account is 0, and the
-/// byte of the kind says whether the event is committed.
+/// kind, transaction (4), account (2), second (4), event kind and amount (4). In a place the account is 0, the byte of
+/// the kind says whether the event is committed, and the event kind is one less, so that the blank is 0.
 #[derive(Clone, Copy, PartialEq, Eq, Debug)]
 pub struct Place(u128);
 
@@ -24,12 +24,12 @@ const COMMITTED: u128 = 1 << KIND;
 
 impl Place {
     /// The one blank: Open of 0, all else 0.
-    pub const BLANK: Place = Place((OPEN as u128) << EVENT);
+    pub const BLANK: Place = Place(0);
 
     /// An undecided event, or a held request.
     pub fn of(transaction: u32, second: u32, event: u8, amount: u32) -> Place {
         let filed = u128::from(transaction) << TRANSACTION | u128::from(second) << SECOND;
-        Place(filed | u128::from(event) << EVENT | u128::from(amount))
+        Place(filed | u128::from(event - OPEN) << EVENT | u128::from(amount))
     }
 
     pub fn transaction(self) -> u32 {
@@ -41,7 +41,7 @@ impl Place {
     }
 
     pub fn event(self) -> u8 {
-        (self.0 >> EVENT) as u8
+        (self.0 >> EVENT) as u8 + OPEN
     }
 
     pub fn amount(self) -> u32 {
@@ -59,11 +59,12 @@ impl Place {
 
     /// The first sixteen bytes of an entry of the kind.
     pub fn bytes(self, kind: u8, account: u16) -> [u8; 16] {
-        (self.0 & !COMMITTED | u128::from(kind) << KIND | u128::from(account) << ACCOUNT).to_be_bytes()
+        let fields = (self.0 & !COMMITTED) + (u128::from(OPEN) << EVENT);
+        (fields | u128::from(kind) << KIND | u128::from(account) << ACCOUNT).to_be_bytes()
     }
 
     /// Whether all of the places are blank.
     pub fn all_blank(places: &[Place]) -> bool {
-        places.iter().fold(0, |bits, place| bits | (place.0 ^ Place::BLANK.0)) == 0
+        places.iter().fold(0, |bits, place| bits | (place.0 >> 64) as u64 | place.0 as u64) == 0
     }
 }
