@@ -1,8 +1,8 @@
 //! Entries: what they carry, their bytes, their reader, their line of text.
 
+use crate::bytes::Numbers;
 use crate::event::Event;
 use crate::fault::Fault;
-use crate::message::Numbers;
 use crate::rules::{Rules, ACCOUNTS};
 
 /// How a request is decided.

@@ -5,9 +5,8 @@
 //! then the messages. The run is made twice, with other bytes in the buffer, and the text has for each: the length
 //! returned, every place for counts, whether all that was not lent is as it was, and every byte of the entry buffer.
 
+use crate::bytes::{hex, Numbers};
 use crate::fault::Fault;
-use crate::message::Numbers;
-use crate::probe::hex;
 use crate::register::Register;
 use crate::rules::Rules;
 use crate::run::{run_into, Ran};

@@ -6,6 +6,7 @@
 
 // The model: document 01, and its page for the probe.
 pub mod account;
+pub mod bytes;
 pub mod entry;
 pub mod event;
 pub mod exported;

@@ -1,5 +1,6 @@
 //! Messages: what they carry, their reader, their writer.
 
+use crate::bytes::Numbers;
 use crate::event::Event;
 use crate::fault::Fault;
 use crate::rules::{Rules, ACCOUNTS};
@@ -89,19 +90,5 @@ impl Message {
             bytes.extend(self.amount.to_be_bytes());
         }
         bytes
-    }
-}
-
-/// Numbers one after the other, highest byte first.
-pub struct Numbers<'a> {
-    pub bytes: &'a [u8],
-}
-
-impl Numbers<'_> {
-    /// The number in the next `width` bytes, 0 for none; the bytes must be there.
-    pub fn next(&mut self, width: usize) -> u32 {
-        let (number, rest) = self.bytes.split_at(width);
-        self.bytes = rest;
-        number.iter().fold(0, |value, byte| value << 8 | u32::from(*byte))
     }
 }

@@ -1,8 +1,9 @@
 //! Streams in readable form, piece by piece: a piece is a message or a frame.
 
+use crate::bytes::{hex, Numbers};
 use crate::exported::{asked, HEAD};
 use crate::message::{self, Message};
-use crate::probe::{hex, split};
+use crate::probe::split;
 use crate::rules::Rules;
 use crate::subject::Target;
 
@@ -43,7 +44,7 @@ fn message_line(bytes: &[u8]) -> String {
     let Some(whole) = message::length(*bytes.first().unwrap_or(&0)).filter(|whole| *whole <= bytes.len()) else {
         return format!("bytes {}", shortened(bytes));
     };
-    let mut numbers = message::Numbers { bytes: &bytes[1..] };
+    let mut numbers = Numbers { bytes: &bytes[1..] };
     let names = ["open", "withdraw", "deposit", "close", "commit", "abort"];
     let name = names[usize::from(bytes[0]) - 1];
     let (transaction, account, second) = (numbers.next(4), numbers.next(2), numbers.next(4));
@@ -59,7 +60,7 @@ fn message_line(bytes: &[u8]) -> String {
 
 /// A frame in words.
 fn frame_line(code: u8, payload: &[u8]) -> String {
-    let mut numbers = message::Numbers { bytes: payload };
+    let mut numbers = Numbers { bytes: payload };
     match (code, payload.len()) {
         (1, 2..) => format!("call, room {}: {}", numbers.next(2), message_line(&payload[2..])),
         (2, 6) => format!("outcome of account {}, number {}", numbers.next(2), numbers.next(4)),
@@ -77,7 +78,7 @@ fn frame_line(code: u8, payload: &[u8]) -> String {
 }
 
 /// Frame 4 in words.
-fn write_line(numbers: &mut message::Numbers) -> String {
+fn write_line(numbers: &mut Numbers) -> String {
     let kind = numbers.next(1) as u8;
     let (transaction, account) = (numbers.next(4), numbers.next(2) as u16);
     let (second, amount) = (numbers.next(4), numbers.next(4));
@@ -86,7 +87,7 @@ fn write_line(numbers: &mut message::Numbers) -> String {
 }
 
 /// Frame 68 in words.
-fn step_line(numbers: &mut message::Numbers) -> String {
+fn step_line(numbers: &mut Numbers) -> String {
     let (account, kind) = (numbers.next(2) as u16, numbers.next(1) as u8);
     let (transaction, second, amount) = (numbers.next(4), numbers.next(4), numbers.next(4));
     let message = Message { kind, transaction, account, second, amount };
@@ -94,7 +95,7 @@ fn step_line(numbers: &mut message::Numbers) -> String {
 }
 
 /// Frame 5 in words.
-fn disturb_line(numbers: &mut message::Numbers) -> String {
+fn disturb_line(numbers: &mut Numbers) -> String {
     let names = ["life", "balance", "in progress", "held", "transaction", "second", "event kind", "amount", "decision"];
     let (account, field, place) = (numbers.next(2), numbers.next(1) as usize, numbers.next(1));
     let name = names.get(field).copied().unwrap_or("no field");

@@ -1,10 +1,10 @@
 //! The limit against the independent implementation: runs byte for byte, single calls on any register, order on any
 //! account.
 
+use independent::bytes::Numbers;
 use independent::compare::{compare, Plan};
 use independent::exported;
 use independent::limit;
-use independent::message::Numbers;
 use independent::order::{broken, Clause};
 use independent::probe::{answer, split, WIDEST};
 use independent::register::Register;

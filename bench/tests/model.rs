@@ -6,7 +6,7 @@ use independent::order::{broken, Clause};
 use independent::random::Random;
 use independent::register::Register;
 use independent::rules::Rules;
-use independent::streams::frames::KINDS;
+use independent::streams::probe::KINDS;
 use independent::streams::stream;
 use independent::streams::traffic::Traffic;
 use independent::subject::Target;

@@ -1,9 +1,10 @@
 //! Frames from 64 on: an account's order, a run of messages, an entry's line of text, an account's single step.
 
-use super::{account, hex, lent, rest_kept};
+use super::lent::{account, lent, rest_kept};
+use crate::bytes::{hex, Numbers};
 use crate::entry::{self, Entry};
 use crate::fault::Fault;
-use crate::message::{self, Message, Numbers};
+use crate::message::{self, Message};
 use crate::order::{broken, Clause};
 use crate::register::Register;
 use crate::rules::Rules;
