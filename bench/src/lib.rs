@@ -10,15 +10,20 @@ pub mod bytes;
 pub mod entry;
 pub mod event;
 pub mod exported;
-pub mod fault;
 pub mod image;
+pub mod limits;
 pub mod message;
 pub mod order;
+pub mod outcomes;
 pub mod probe;
 pub mod program;
 pub mod register;
+pub mod request;
 pub mod rules;
 pub mod run;
+
+// The wrong versions of it.
+pub mod fault;
 
 // The comparison.
 pub mod compare;

@@ -2,7 +2,7 @@
 
 use crate::limit;
 use crate::proved;
-use crate::rules::Rules;
+use crate::rules::{Document, Judged, Places};
 use crate::run::{self, room, Ran, Run};
 use std::hint::black_box;
 use std::time::Instant;
@@ -46,9 +46,9 @@ impl Runner {
     /// Runs the messages; `room` is for those that write where they are told.
     pub fn run(self, messages: &[u8], room: &mut [u8]) -> Run {
         match self {
-            Runner::Independent => run::run(messages, Rules::DOCUMENT),
-            Runner::Judged => run::run(messages, Rules { judged: true, ..Rules::DOCUMENT }),
-            Runner::OneAtATime => run::run(messages, Rules { places: 1, ..Rules::DOCUMENT }),
+            Runner::Independent => run::run(messages, &Document),
+            Runner::Judged => run::run(messages, &Judged),
+            Runner::OneAtATime => run::run(messages, &Places(1)),
             Runner::Limit => {
                 let Ran { met, refused, written, .. } = limit::run(messages, room);
                 Run { met, refused, entries: room[..written as usize].to_vec() }
@@ -84,7 +84,7 @@ pub fn agree(messages: &[u8], runners: &[Runner]) -> bool {
 /// Whether the versions under document 01's rules agree on the stream: messages met and refused, and entries.
 pub fn agree_on_entries(messages: &[u8], runners: &[Runner]) -> bool {
     let mut room = room(messages);
-    let right = run::run(messages, Rules::DOCUMENT);
+    let right = run::run(messages, &Document);
     let mut others = runners.iter().filter(|runner| **runner != Runner::OneAtATime);
     others.all(|runner| runner.run(messages, &mut room) == right)
 }

@@ -5,10 +5,11 @@ use independent::bytes::Numbers;
 use independent::compare::{compare, Plan};
 use independent::exported;
 use independent::limit;
+use independent::limits::{ACCOUNTS, LONGEST};
 use independent::order::{broken, Clause};
-use independent::probe::{answer, split, WIDEST};
-use independent::register::Register;
-use independent::rules::{Rules, ACCOUNTS, LONGEST};
+use independent::probe::{split, ProbeRules, WIDEST};
+use independent::register::{Register, RegisterRules};
+use independent::rules::Document;
 use independent::run::{room, run, Ran};
 use independent::streams::stream;
 use independent::subject::{Subject, Target};
@@ -46,7 +47,7 @@ fn runs_as_the_exported_call() {
 fn runs_of_the_programs_streams() {
     for number in 0..150 {
         let messages = stream(Target::Program, 7, number).bytes;
-        let right = run(&messages, Rules::DOCUMENT);
+        let right = run(&messages, &Document);
         let mut entries = room(&messages);
         let ran = limit::run(&messages, &mut entries);
         assert_eq!((ran.met, ran.refused), (right.met, right.refused), "stream {number}");
@@ -67,7 +68,7 @@ struct Asked {
 /// A call on both registers: the same answer, the same bytes in the buffer, the same accounts after it.
 fn call_both(room: usize, message: &[u8], right: &mut Register, fast: &mut limit::Register, asked: &mut Asked) {
     let (mut expected, mut got) = (vec![165; room], vec![165; room]);
-    let answer = right.call(message, &mut expected);
+    let answer = Document.call(right, message, &mut expected);
     assert_eq!(fast.call(message, &mut got), answer);
     assert_eq!(got, expected);
     match answer {
@@ -85,8 +86,8 @@ fn follow(right: &Register, fast: &mut limit::Register, asked: &mut Asked) {
         }
         fast.put(at, &image);
         assert_eq!(fast.image(at), image);
-        assert_eq!(fast.in_order(at), right.in_order(at), "{image:?}");
-        let broken = broken(&image);
+        assert_eq!(fast.in_order(at), right.in_order(at, &Document), "{image:?}");
+        let broken = broken(&image, &Document);
         let place = |clause: &Clause| Clause::ALL.iter().position(|other| other == clause).unwrap_or(0);
         broken.iter().for_each(|clause| asked.broken[place(clause)] += 1);
         if let [clause] = &broken[..] {
@@ -102,7 +103,7 @@ fn calls_on_any_register() {
     for number in 0..240 {
         let bytes = stream(Target::Probe, 7, number).bytes;
         let mut rest = if bytes.len() > LONGEST { &[] } else { &bytes[..] };
-        let (mut right, mut fast) = (Register::fresh(Rules::DOCUMENT), limit::Register::fresh());
+        let (mut right, mut fast) = (Register::fresh(), limit::Register::fresh());
         while let Some((code, payload, after)) = split(rest) {
             rest = after;
             let mut numbers = Numbers { bytes: payload };
@@ -113,7 +114,7 @@ fn calls_on_any_register() {
                     (0..ACCOUNTS).for_each(|at| assert_eq!(fast.image(at), right.image(at)));
                 }
             } else {
-                answer(&mut right, code, payload, &Rules::DOCUMENT);
+                Document.frame(&mut right, code, payload);
                 follow(&right, &mut fast, &mut asked);
             }
         }

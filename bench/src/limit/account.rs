@@ -3,7 +3,7 @@
 use super::outlook::{Outlook, Vote, CLOSED, NEW, OPENED};
 use super::place::{Place, CLOSE, OPEN, WITHDRAW};
 use super::writer::Writer;
-use crate::rules::{LIMIT, PLACES};
+use crate::limits::{LIMIT, PLACES};
 
 /// An account as it is stored, in order or not.
 #[derive(Clone, Copy, PartialEq, Eq, Debug)]

@@ -8,7 +8,7 @@ mod stored;
 mod writer;
 
 use crate::image::Image;
-use crate::rules::{ACCOUNTS, ROOM};
+use crate::limits::{ACCOUNTS, ROOM};
 use crate::run::Ran;
 use account::Account;
 use place::{Place, CLOSE, DEPOSIT, OPEN, WITHDRAW};

@@ -5,7 +5,7 @@
 //! for a balance on one side of a line: the two ends tell whether it holds everywhere, somewhere or nowhere.
 
 use super::place::{Place, DEPOSIT, OPEN, WITHDRAW};
-use crate::rules::LIMIT;
+use crate::limits::LIMIT;
 
 /// The three lives, each a bit.
 pub const NEW: u8 = 1;

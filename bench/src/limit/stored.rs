@@ -5,7 +5,8 @@ use super::outlook::{CLOSED, NEW, OPENED};
 use super::place::Place;
 use crate::event::{Event, Life, State};
 use crate::image::{self, Image};
-use crate::rules::PLACES;
+use crate::limits::PLACES;
+use crate::request::Request;
 
 /// Lives and their bits.
 const LIVES: [(Life, u8); 3] = [(Life::New, NEW), (Life::Opened, OPENED), (Life::Closed, CLOSED)];
@@ -35,7 +36,8 @@ impl Account {
 
 /// A place from its stored form.
 fn packed(stored: &image::Place) -> Place {
-    let place = Place::of(stored.transaction, stored.second, stored.event.kind(), stored.event.amount());
+    let Request { transaction, second, event } = stored.request;
+    let place = Place::of(transaction, second, event.kind(), event.amount());
     if stored.committed {
         place.commit()
     } else {
@@ -46,5 +48,6 @@ fn packed(stored: &image::Place) -> Place {
 /// The stored form of a place.
 fn unpacked(place: Place) -> image::Place {
     let event = Event::of(place.event(), place.amount()).unwrap_or(Event::Close);
-    image::Place { transaction: place.transaction(), second: place.second(), event, committed: place.committed() }
+    let request = Request { transaction: place.transaction(), second: place.second(), event };
+    image::Place { request, committed: place.committed() }
 }

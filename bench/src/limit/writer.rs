@@ -2,7 +2,7 @@
 
 use super::outlook::Vote;
 use super::place::{Place, OPEN};
-use crate::rules::ROOM;
+use crate::limits::ROOM;
 
 const NOTED: u8 = 20;
 const APPLIED: u8 = 21;

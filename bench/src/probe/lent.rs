@@ -1,6 +1,6 @@
 //! What a frame names and lends: an account, a buffer.
 
-use crate::rules::ACCOUNTS;
+use crate::limits::ACCOUNTS;
 
 /// The largest buffer that a frame can lend.
 pub const WIDEST: usize = 1_024;

@@ -6,28 +6,36 @@ mod lent;
 
 pub use lent::WIDEST;
 
-use crate::fault::Fault;
+use crate::entry::EntryRules;
+use crate::limits::LONGEST;
 use crate::register::Register;
-use crate::rules::{Rules, LONGEST};
+use crate::run::RunRules;
+
+/// Frames as a whole.
+pub trait ProbeRules: RunRules + EntryRules {
+    /// The line of a frame, none where it is unknown.
+    fn frame(&self, register: &mut Register, code: u8, payload: &[u8]) -> Option<String> {
+        frame(register, code, payload, self)
+    }
+}
 
 /// The whole output of the probe on an input.
-pub fn text(input: &[u8], rules: Rules) -> String {
+pub fn text(input: &[u8], rules: &impl ProbeRules) -> String {
     let mut text = String::from("probe 1\n");
-    if input.len() > LONGEST - usize::from(rules.has(Fault::TooLongEarly)) {
+    if input.len() > LONGEST {
         return text + "too long\n";
     }
-    let mut register = Register::fresh(rules);
+    let mut register = Register::fresh();
     let mut lines = 0;
     let mut rest = input;
     while !rest.is_empty() {
         let line = match split(rest) {
             Some((code, payload, after)) => {
                 rest = after;
-                answer(&mut register, code, payload, &rules).unwrap_or("unknown".into())
+                rules.frame(&mut register, code, payload).unwrap_or("unknown".into())
             }
             None => {
                 rest = &[];
-                lines -= i32::from(rules.has(Fault::TornNotCounted));
                 "torn".into()
             }
         };
@@ -45,8 +53,8 @@ pub fn split(bytes: &[u8]) -> Option<(u8, &[u8], &[u8])> {
     Some((head[0], bytes.get(3..end)?, &bytes[end..]))
 }
 
-/// The line of a frame, none where it is unknown.
-pub fn answer(register: &mut Register, code: u8, payload: &[u8], rules: &Rules) -> Option<String> {
+/// The line of a frame, by its code.
+pub fn frame(register: &mut Register, code: u8, payload: &[u8], rules: &impl ProbeRules) -> Option<String> {
     match code {
         0..64 => first::answer(register, code, payload, rules),
         64.. => later::answer(register, code, payload, rules),

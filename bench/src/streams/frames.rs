@@ -1,10 +1,12 @@
 //! Frames of the probe as they are put together, with the traffic that they drive.
 
 use crate::image::Image;
-use crate::message::Message;
+use crate::limits::{ACCOUNTS, ROOM};
+use crate::message::{self, Head, Message};
 use crate::probe::WIDEST;
 use crate::random::Random;
-use crate::rules::{Rules, ACCOUNTS, ROOM};
+use crate::register::RegisterRules;
+use crate::rules::Document;
 use crate::streams::traffic::Traffic;
 
 /// Frames so far, with the traffic that they drive.
@@ -46,7 +48,7 @@ impl Frames {
         if usize::from(account) < ACCOUNTS {
             let mut image = self.image(account);
             if image.disturb(field, place, value) {
-                self.traffic.register.put(usize::from(account), image);
+                self.traffic.register.put(usize::from(account), image, &Document);
             }
         }
     }
@@ -66,13 +68,13 @@ impl Frames {
         self.frame(65, &[&(room as u16).to_be_bytes(), messages]);
     }
 
-    /// Frame 68, and the traffic's register goes on by it.
-    pub fn single(&mut self, message: &Message) {
-        let Message { kind, transaction, account, second, amount } = *message;
-        let head = [&account.to_be_bytes()[..], &[kind]].concat();
+    /// Frame 68 with an amount, which is not looked at where the kind has none; the traffic's register goes on by it.
+    pub fn single(&mut self, message: &Message, amount: u32) {
+        let Head { transaction, account, second } = message.head();
+        let head = [&account.to_be_bytes()[..], &[message.kind()]].concat();
         self.frame(68, &[&head, &transaction.to_be_bytes(), &second.to_be_bytes(), &amount.to_be_bytes()]);
         if usize::from(account) < ACCOUNTS {
-            let _ = self.traffic.register.step(message);
+            let _ = Document.single(&mut self.traffic.register, message);
         }
     }
 
@@ -83,17 +85,16 @@ impl Frames {
 
     /// The next message in a call, or so many times in a hundred as a single step; often a look at the account.
     pub fn step(&mut self, singles: u64) {
-        let mut message = self.traffic.compose();
+        let message = self.traffic.compose();
         if self.traffic.random.chance(singles) {
-            if message.kind > 3 {
-                message.amount = self.traffic.random.pick(&[0, 1, u32::MAX]);
-            }
-            self.single(&message);
+            let none = message::length(message.kind()) == Some(message::HEAD);
+            let amount = if none { self.traffic.random.pick(&[0, 1, u32::MAX]) } else { message.amount() };
+            self.single(&message, amount);
         } else {
             let room = self.traffic.random.pick(&[ROOM, ROOM, ROOM, 316, 500, WIDEST]);
-            self.call(room, &message.bytes(&Rules::DOCUMENT));
+            self.call(room, &message.bytes());
         }
-        self.look(message.account);
+        self.look(message.head().account);
     }
 
     /// Now and then a show, an outcome question, or the question whether the account is in order.

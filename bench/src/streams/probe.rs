@@ -1,7 +1,7 @@
 //! Streams for the probe: frames one after the other, and what is not frames.
 
+use crate::limits::LONGEST;
 use crate::random::Random;
-use crate::rules::LONGEST;
 use crate::streams::frames::Frames;
 use crate::streams::{codecs, disturbance, runs};
 

@@ -1,6 +1,15 @@
-//! The wrong versions that the comparison has to find, each a switch in the model.
+//! The wrong versions that the comparison has to find: the list here, what each does otherwise in the files beside.
+
+mod account;
+mod call;
+mod codec;
+mod text;
 
 use crate::order::Clause;
+
+/// The model with one fault: where its fault has nothing to say, it does as document 01 does.
+#[derive(Clone, Copy, PartialEq, Eq, Debug)]
+pub struct Wrong(pub Fault);
 
 /// Declares the faults, each with the sentence that tells what is wrong.
 macro_rules! faults {
