@@ -25,10 +25,7 @@ pub fn steady(in_progress: u32, pairs: u32) -> Vec<u8> {
 
 /// So many undecided withdrawals, then so many requests that every outcome rejects.
 pub fn undecided(events: u32, requests: u32) -> Vec<u8> {
-    let mut bytes = opened();
-    for number in 0..events {
-        bytes.extend(request(Event::Withdraw(1), number));
-    }
+    let mut bytes = withdrawals(events);
     for number in events..events + requests {
         bytes.extend(request(Event::Withdraw(LIMIT), number));
     }
@@ -37,15 +34,18 @@ pub fn undecided(events: u32, requests: u32) -> Vec<u8> {
 
 /// So many undecided withdrawals, then so many pairs of a request that every outcome accepts and its abort.
 pub fn accepted(events: u32, pairs: u32) -> Vec<u8> {
-    let mut bytes = opened();
-    for number in 0..events {
-        bytes.extend(request(Event::Withdraw(1), number));
-    }
+    let mut bytes = withdrawals(events);
     for number in events..events + pairs {
         bytes.extend(request(Event::Deposit(1), number));
         bytes.extend(Message::Abort(head(number)).bytes());
     }
     bytes
+}
+
+/// An opened account with so many undecided withdrawals.
+fn withdrawals(events: u32) -> Vec<u8> {
+    let requests = (0..events).flat_map(|number| request(Event::Withdraw(1), number));
+    opened().into_iter().chain(requests).collect()
 }
 
 /// Account 0 opened half full, and committed.

@@ -1,6 +1,6 @@
 //! What wrong versions do otherwise within an account: guards, weighing, commits and aborts, order.
 
-use super::{Fault, Wrong};
+use super::list::{Fault, Wrong};
 use crate::account::{Account, AccountRules, Standing};
 use crate::entry::Entry;
 use crate::event::{Event, EventRules, Life, State};

@@ -1,6 +1,6 @@
 //! What wrong versions do otherwise in the register's calls and in runs of them.
 
-use super::{Fault, Wrong};
+use super::list::{Fault, Wrong};
 use crate::entry::Entry;
 use crate::image::{Image, Place};
 use crate::limits::{ACCOUNTS, PLACES, ROOM};

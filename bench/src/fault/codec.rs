@@ -1,6 +1,6 @@
 //! What wrong versions do otherwise in the readers and the writer.
 
-use super::{Fault, Wrong};
+use super::list::{Fault, Wrong};
 use crate::entry::{Entry, EntryRules, NOTED};
 use crate::event::Event;
 use crate::limits::ACCOUNTS;

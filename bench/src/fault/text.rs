@@ -1,7 +1,7 @@
 //! What wrong versions do otherwise in the frames of the probe and in what the targets print.
 
 use super::call::unused;
-use super::{Fault, Wrong};
+use super::list::{Fault, Wrong};
 use crate::entry::EntryRules;
 use crate::exported::{self, told};
 use crate::image::Place;

@@ -1,11 +1,12 @@
 //! The limit: how fast a register can be that makes every check of document 01 at every call, by hand, in place, in safe
 //! Rust, with nothing proved. It is a measure for the others and shares no rule with the independent implementation.
 
-mod account;
-mod outlook;
 mod place;
-mod stored;
+mod outlook;
 mod writer;
+mod account;
+mod order;
+mod stored;
 
 use crate::image::Image;
 use crate::limits::{ACCOUNTS, ROOM};

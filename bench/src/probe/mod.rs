@@ -1,8 +1,8 @@
 //! The probe: frames in, lines out, by the protocol of its page.
 
+mod lent;
 mod first;
 mod later;
-mod lent;
 
 pub use lent::WIDEST;
 

@@ -1,13 +1,13 @@
 //! Seeded streams of bytes for the program, for the probe and for the exported call.
 
 pub mod amount;
+pub mod traffic;
+pub mod messages;
+pub mod frames;
 pub mod codecs;
 pub mod disturbance;
-pub mod frames;
-pub mod messages;
-pub mod probe;
 pub mod runs;
-pub mod traffic;
+pub mod probe;
 
 use crate::random::Random;
 use crate::subject::Target;
