@@ -98,14 +98,28 @@ pub trait AccountRules: EventRules {
         account.admit(request, self);
     }
 
-    /// The place in progress of the event that is applied next, if any; `entries` are the call's so far.
-    fn next_applied(&self, account: &Account, _entries: &[Entry]) -> Option<usize> {
+    /// The place in progress of the event that is applied next: the oldest, where it is committed.
+    fn next_applied(&self, account: &Account) -> Option<usize> {
         account.progress.front().is_some_and(|oldest| oldest.committed).then_some(0)
     }
 
-    /// The place in holding of the request that is weighed next, if any; `entries` are the call's so far.
-    fn next_weighed(&self, account: &Account, _entries: &[Entry]) -> Option<usize> {
+    /// The place in holding of the request that is weighed next: the oldest, where there is room in progress.
+    fn next_weighed(&self, account: &Account) -> Option<usize> {
         (!account.held.is_empty() && !self.full(account)).then_some(0)
+    }
+
+    /// Applies what can be applied, after the call's own entry.
+    fn settle(&self, account: &mut Account, entries: &mut Vec<Entry>) {
+        while let Some(entry) = account.apply_next(self) {
+            entries.push(entry);
+        }
+    }
+
+    /// Decides the held requests that can be decided, after the applied entries.
+    fn drain(&self, account: &mut Account, entries: &mut Vec<Entry>) {
+        while let Some(entry) = account.decide_next(self) {
+            entries.push(entry);
+        }
     }
 
     /// The transaction number of an event that has ended may return.
@@ -139,14 +153,22 @@ impl Account {
         Ok(match message {
             Message::Request { request, .. } => vec![self.request(*request, rules)],
             Message::Commit(head) => {
-                let noted = self.commit(head);
-                self.follow(noted, rules)
+                let own = self.commit(head);
+                self.follow(own, rules)
             }
             Message::Abort(head) => {
-                let dropped = self.abort(head.transaction);
-                self.follow(Entry::Dropped { request: dropped }, rules)
+                let own = self.abort(head.transaction);
+                self.follow(own, rules)
             }
         })
+    }
+
+    /// The entries of a commit or an abort, its own first.
+    fn follow(&mut self, own: Entry, rules: &impl AccountRules) -> Vec<Entry> {
+        let mut entries = vec![own];
+        rules.settle(self, &mut entries);
+        rules.drain(self, &mut entries);
+        entries
     }
 
     /// Decides a request: held unweighed, or weighed.
@@ -174,45 +196,40 @@ impl Account {
     }
 
     /// Takes out an event in progress, or else a held request: the outcomes without it are left.
-    pub fn abort(&mut self, transaction: u32) -> Request {
-        if self.standing.remove(&transaction) == Some(Standing::Held) {
+    pub fn abort(&mut self, transaction: u32) -> Entry {
+        let request = if self.standing.remove(&transaction) == Some(Standing::Held) {
             let at = self.held.iter().position(|request| request.transaction == transaction).unwrap_or(0);
-            return self.held.remove(at).unwrap_or(Place::BLANK.request);
-        }
-        let at = self.place(transaction);
-        self.outcomes.halve(self.bit(at), false);
-        self.progress.remove(at).unwrap_or(Place::BLANK).request
+            self.held.remove(at)
+        } else {
+            let at = self.place(transaction);
+            self.outcomes.halve(self.bit(at), false);
+            self.progress.remove(at).map(|place| place.request)
+        };
+        Entry::Dropped { request: request.unwrap_or(Place::BLANK.request) }
     }
 
-    /// What follows from a commit or an abort: events are applied, then held requests decided. The first entry is the
-    /// call's own.
-    fn follow(&mut self, own: Entry, rules: &impl AccountRules) -> Vec<Entry> {
-        let mut entries = vec![own];
-        while let Some(at) = rules.next_applied(self, &entries) {
-            entries.push(self.apply(at, rules));
-        }
-        while let Some(at) = rules.next_weighed(self, &entries) {
-            let request = self.held[at];
-            let (vote, outcomes) = (rules.weigh(self, request.event), rules.count(self));
-            if vote == Vote::Held {
-                break;
-            }
-            self.held.remove(at);
-            self.standing.remove(&request.transaction);
-            if vote == Vote::Accepted {
-                rules.admit(self, request);
-            }
-            entries.push(Entry::Voted { vote, request, outcomes });
-        }
-        entries
-    }
-
-    /// Ends a committed event: its effect is applied.
-    fn apply(&mut self, at: usize, rules: &impl AccountRules) -> Entry {
-        let request = self.progress.remove(at).unwrap_or(Place::BLANK).request;
+    /// Ends the event that is applied next, if any: its effect is applied.
+    pub fn apply_next(&mut self, rules: &impl AccountRules) -> Option<Entry> {
+        let Place { request, .. } = self.progress.remove(rules.next_applied(self)?)?;
         self.applied = rules.effect(request.event, self.applied);
         rules.release(self, request.transaction);
-        Entry::Applied { request, balance: self.applied.balance }
+        Some(Entry::Applied { request, balance: self.applied.balance })
+    }
+
+    /// Weighs the held request that is weighed next, if any, as if nothing were held; none where it stays held.
+    pub fn decide_next(&mut self, rules: &impl AccountRules) -> Option<Entry> {
+        let at = rules.next_weighed(self)?;
+        let request = self.held[at];
+        let (vote, outcomes) = (rules.weigh(self, request.event), rules.count(self));
+        if vote == Vote::Held {
+            return None;
+        }
+        self.held.remove(at);
+        self.standing.remove(&request.transaction);
+        if vote == Vote::Accepted {
+            rules.admit(self, request);
+        }
+        Some(Entry::Voted { vote, request, outcomes })
     }
 
     /// Takes a request in progress, undecided, as the newest.

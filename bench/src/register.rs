@@ -66,11 +66,12 @@ impl Register {
     /// The call on bytes.
     pub fn call(&mut self, bytes: &[u8], buffer: &mut [u8], rules: &impl RegisterRules) -> Result<(usize, usize), u8> {
         let taken = rules.take(self, bytes, buffer.len())?;
-        let all = taken.entries.iter().flat_map(|entry| entry.bytes(taken.account));
         let mut written = 0;
-        for (there, byte) in buffer.iter_mut().zip(all) {
-            *there = byte;
-            written += 1;
+        for entry in &taken.entries {
+            let (bytes, rest) = (entry.bytes(taken.account), &mut buffer[written..]);
+            let length = bytes.len().min(rest.len());
+            rest[..length].copy_from_slice(&bytes[..length]);
+            written += length;
         }
         Ok((taken.consumed, written))
     }

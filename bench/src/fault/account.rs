@@ -121,24 +121,50 @@ impl AccountRules for Wrong {
         *account = Account::stored(&image, self);
     }
 
-    fn next_applied(&self, account: &Account, entries: &[Entry]) -> Option<usize> {
+    fn next_applied(&self, account: &Account) -> Option<usize> {
         match self.0 {
             Fault::CommitAppliedAtOnce => account.progress().position(|place| place.committed),
-            Fault::OneAppliedACall if any_applied(entries) => None,
-            _ => Document.next_applied(account, entries),
+            _ => Document.next_applied(account),
         }
     }
 
-    fn next_weighed(&self, account: &Account, entries: &[Entry]) -> Option<usize> {
-        let any_voted = entries.iter().any(|entry| matches!(entry, Entry::Voted { .. }));
-        let stuck = match self.0 {
-            Fault::OneHeldACall => any_voted,
-            Fault::HeldNeedsApplication => !any_applied(entries),
-            _ => false,
-        };
-        let stays =
+    fn next_weighed(&self, account: &Account) -> Option<usize> {
+        let passed =
             |request: &Request| self.0 == Fault::LaterHeldPasses && self.weigh(account, request.event) == Vote::Held;
-        account.held().position(|request| !stays(request)).filter(|_| !stuck && !self.full(account))
+        account.held().position(|request| !passed(request)).filter(|_| !self.full(account))
+    }
+
+    fn settle(&self, account: &mut Account, entries: &mut Vec<Entry>) {
+        while let Some(entry) = account.apply_next(self) {
+            entries.push(entry);
+            if self.0 == Fault::OneAppliedACall {
+                break;
+            }
+        }
+        if self.0 == Fault::BalanceAfterCall {
+            let after = account.image().state.balance;
+            entries.iter_mut().for_each(|entry| match entry {
+                Entry::Applied { balance, .. } => *balance = after,
+                _ => {}
+            });
+        }
+    }
+
+    fn drain(&self, account: &mut Account, entries: &mut Vec<Entry>) {
+        let applied = entries.iter().any(|entry| matches!(entry, Entry::Applied { .. }));
+        if self.0 == Fault::HeldNeedsApplication && !applied {
+            return;
+        }
+        while let Some(entry) = account.decide_next(self) {
+            entries.push(entry);
+            if self.0 == Fault::OneHeldACall {
+                break;
+            }
+        }
+        if self.0 == Fault::EntryForStaying && !self.full(account) {
+            let (vote, outcomes) = (Vote::Held, self.count(account));
+            entries.extend(account.held().next().map(|request| Entry::Voted { vote, request: *request, outcomes }));
+        }
     }
 
     fn release(&self, account: &mut Account, transaction: u32) {
@@ -161,29 +187,17 @@ impl AccountRules for Wrong {
 
     fn step(&self, account: &mut Account, message: &Message) -> Result<Vec<Entry>, u8> {
         let head = message.head();
-        let abort_of_held =
-            matches!(message, Message::Abort(_)) && account.standing(head.transaction) == Some(Standing::Held);
-        if self.0 == Fault::AbortOfHeldDrainsNothing && abort_of_held {
-            return Ok(vec![Entry::Dropped { request: account.abort(head.transaction) }]);
+        let held = account.standing(head.transaction) == Some(Standing::Held);
+        if let (Fault::AbortOfHeldDrainsNothing, Message::Abort(_), true) = (self.0, message, held) {
+            return Ok(vec![account.abort(head.transaction)]);
         }
         let mut entries = account.step(message, self)?;
-        let last = entries.iter().rev().find_map(|entry| match entry {
-            Entry::Applied { balance, .. } => Some(*balance),
-            _ => None,
-        });
         for entry in &mut entries {
             match (self.0, entry) {
                 (Fault::CommitSecondInApplied, Entry::Applied { request, .. }) => request.second = head.second,
                 (Fault::AbortSecondInDropped, Entry::Dropped { request }) => request.second = head.second,
-                (Fault::BalanceAfterCall, Entry::Applied { balance, .. }) => *balance = last.unwrap_or(0),
                 _ => {}
             }
-        }
-        let decision = !matches!(message, Message::Request { .. });
-        if self.0 == Fault::EntryForStaying && decision && !self.full(account) {
-            let vote = Vote::Held;
-            let staying = account.held().next().copied();
-            entries.extend(staying.map(|request| Entry::Voted { vote, request, outcomes: self.count(account) }));
         }
         Ok(entries)
     }
@@ -194,9 +208,4 @@ impl OrderRules for Wrong {
         let checked = |clause: &&Clause| self.0 != Fault::Unchecked(**clause);
         Clause::ALL.iter().filter(checked).all(|clause| clause.kept(image, self))
     }
-}
-
-/// Whether the call has applied an event.
-fn any_applied(entries: &[Entry]) -> bool {
-    entries.iter().any(|entry| matches!(entry, Entry::Applied { .. }))
 }
