@@ -40,12 +40,13 @@ fn main() -> ExitCode {
     }
     let (throughput, lines) = print_throughput(&options);
     let drawn = options.plot.as_ref().is_none_or(|file| draw(file, lines));
-    print_growth(&options);
+    let growth = print_growth(&options);
     let contention = print_contention(&options);
-    if !(throughput && contention) {
+    let same = throughput && growth && contention;
+    if !same {
         println!("the versions differ in their entries, or refuse messages of the streams");
     }
-    if throughput && contention && drawn {
+    if same && drawn {
         ExitCode::SUCCESS
     } else {
         ExitCode::FAILURE
@@ -139,8 +140,9 @@ fn draw(file: &str, lines: Vec<Line>) -> bool {
     }
 }
 
-/// Prints the cost of a request for each number of undecided events.
-fn print_growth(options: &Options) {
+/// Prints the cost of a request for each number of undecided events; says whether the versions agree.
+fn print_growth(options: &Options) -> bool {
+    let mut same = true;
     let runners = Runner::all().into_iter().filter(|runner| *runner != Runner::OneAtATime).collect::<Vec<_>>();
     for (title, stream) in [
         ("a request that every outcome rejects", undecided as fn(u32, u32) -> Vec<u8>),
@@ -155,6 +157,7 @@ fn print_growth(options: &Options) {
         let mut first = Vec::new();
         for events in 0..8 {
             let stream = stream(events, options.messages / 4);
+            same &= agree(&stream, &runners);
             let times = times(&stream, &runners, options.rounds);
             first = if first.is_empty() { times.clone() } else { first };
             print!("| {events} | {} |", 1 << events);
@@ -162,6 +165,7 @@ fn print_growth(options: &Options) {
             println!();
         }
     }
+    same
 }
 
 /// Prints who waits under contention with 8 places and with 1; says whether the versions agree.

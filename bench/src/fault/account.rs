@@ -143,10 +143,11 @@ impl AccountRules for Wrong {
         }
         if self.0 == Fault::BalanceAfterCall {
             let after = account.image().state.balance;
-            entries.iter_mut().for_each(|entry| match entry {
-                Entry::Applied { balance, .. } => *balance = after,
-                _ => {}
-            });
+            for entry in entries {
+                if let Entry::Applied { balance, .. } = entry {
+                    *balance = after;
+                }
+            }
         }
     }
 
