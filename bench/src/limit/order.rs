@@ -51,8 +51,9 @@ fn all_differ(progress: &[Place], holding: &[Place]) -> bool {
         return !repeats(&first);
     }
     let second = numbers(holding, 1 << 33);
-    let across = second.iter().any(|number| first.iter().fold(false, |same, other| same | (number == other)));
-    !(across || repeats(&first) || repeats(&second))
+    let across = |number: &u64| first.iter().fold(false, |same, other| same | (number == other));
+    let among = holding.len() > 1 && repeats(&second);
+    !(among || repeats(&first) || second[..holding.len()].iter().any(across))
 }
 
 /// The transactions of a row, and for its unused places the numbers from `unused` on.

@@ -1,5 +1,7 @@
 //! A place of an account, packed into sixteen bytes that are nearly those of its entries.
 
+use crate::limits::PLACES;
+
 /// The four event kinds.
 pub const OPEN: u8 = 1;
 pub const WITHDRAW: u8 = 2;
@@ -63,8 +65,16 @@ impl Place {
         (fields | u128::from(kind) << KIND | u128::from(account) << ACCOUNT).to_be_bytes()
     }
 
-    /// Whether all of the places are blank.
+    /// Whether all of the places are blank; a row that is not used at all goes the quick way.
     pub fn all_blank(places: &[Place]) -> bool {
-        places.iter().fold(0, |bits, place| bits | (place.0 >> 64) as u64 | place.0 as u64) == 0
+        match <&[Place; PLACES]>::try_from(places) {
+            Ok(row) => row.iter().fold([0, 0], Place::gathered) == [0, 0],
+            Err(_) => places.iter().fold([0, 0], Place::gathered) == [0, 0],
+        }
+    }
+
+    /// The bits that are set here or were set before.
+    fn gathered([high, low]: [u64; 2], place: &Place) -> [u64; 2] {
+        [high | (place.0 >> 64) as u64, low | place.0 as u64]
     }
 }
