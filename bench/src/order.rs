@@ -44,7 +44,7 @@ impl Clause {
             Clause::TransactionsDiffer => "transactions in progress and held all differ",
             Clause::BlanksBlank => "blanks are blank",
             Clause::BalanceOfUnopened => "a new or closed account has balance 0",
-            Clause::GuardsTrue => "each guard is true in every outcome of those before it",
+            Clause::GuardsTrue => "each event's guard holds in all outcomes of the events before it",
             Clause::OldestUndecided => "the oldest event is undecided",
             Clause::OldestHeldStays => "the oldest held request would stay held",
             Clause::HeldHasNoDecision => "a held request has no decision",
@@ -103,8 +103,8 @@ fn outcomes(image: &Image, rules: &impl EventRules) -> Option<Outcomes> {
     Some(outcomes)
 }
 
-/// Whether the oldest held request, if any, would stay held. Where a guard before it
-/// fails this cannot be said, and is left to that clause.
+/// Whether the oldest of the held requests is one that stays held, or nothing is held. Where a guard fails before it,
+/// this cannot be said and is left to that clause.
 fn stays(image: &Image, rules: &impl EventRules) -> bool {
     let Some(oldest) = image.held_places().first() else {
         return true;

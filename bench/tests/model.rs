@@ -12,7 +12,7 @@ use independent::streams::traffic::Traffic;
 use independent::subject::Target;
 use independent::tally::Tally;
 
-/// The state in an outcome, walked as document 01 says: a committed event is applied, an undecided one as its bit says.
+/// The state in an outcome, walked event by event: a committed one counts, an undecided one if its bit is set.
 fn walked(image: &Image, number: usize) -> State {
     let mut bit = 0;
     let mut state = image.state;

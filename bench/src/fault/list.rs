@@ -36,7 +36,7 @@ macro_rules! faults {
 }
 
 faults! {
-    CommitAppliedAtOnce: "a commit is applied when it comes, before an older undecided event",
+    CommitAppliedAtOnce: "a commit is applied at once, ahead of an older event that is undecided",
     OnlyAllOrNone: "only the outcomes 'all commit' and 'none commit' are weighed",
     RequestPassesHeld: "a new request passes a held one",
     LaterHeldPasses: "a later held request passes one that stays held",

@@ -1,5 +1,6 @@
-//! The limit: how fast a register can be that makes every check of document 01 at every call, by hand, in place, in safe
-//! Rust, with nothing proved. It is a measure for the others and shares no rule with the independent implementation.
+//! The limit: how fast a register can be that makes every check of document 01 at every call, by hand, in place, in
+//! safe Rust, with nothing proved. It is a measure for the others and shares no rule with the independent
+//! implementation.
 
 mod place;
 mod outlook;
