@@ -4,10 +4,11 @@
 //! for a while. A user requests on every account of the transfer, commits when all accept, aborts
 //! when one rejects or when it takes too long (two transfers can wait on each other), and starts anew.
 
-use crate::entry::{Entry, ACCEPTED, HELD, REJECTED};
+use crate::entry::Entry;
 use crate::event::Event;
 use crate::limits::{LIMIT, ROOM};
 use crate::message::{Head, Message};
+use crate::outcomes::Vote;
 use crate::random::Random;
 use crate::register::{Register, RegisterRules, Taken};
 use crate::rules::Places;
@@ -218,14 +219,18 @@ impl World {
     /// A user hears of an entry.
     fn hear(&mut self, entry: &Entry, account: u16, tick: u64) {
         let (transaction, _) = entry.filed();
-        if entry.kind() == HELD {
+        let vote = match entry {
+            Entry::Voted { vote, .. } => Some(*vote),
+            _ => None,
+        };
+        if vote == Some(Vote::Held) {
             self.held.insert((transaction, account), self.handled);
         } else if let Some(since) = self.held.remove(&(transaction, account)) {
             self.result.waits.push(self.handled - since);
         }
-        match entry.kind() {
-            REJECTED => self.decide(transaction, Message::Abort, tick + TRAVEL),
-            ACCEPTED => {
+        match vote {
+            Some(Vote::Rejected) => self.decide(transaction, Message::Abort, tick + TRAVEL),
+            Some(Vote::Accepted) => {
                 let Some(transfer) = self.transfers.get_mut(&transaction) else { return };
                 transfer.accepted += 1;
                 if transfer.accepted == transfer.requests.len() && !transfer.decided {

@@ -56,11 +56,14 @@ fn runs_of_the_programs_streams() {
 }
 
 /// What the limit was asked in the streams of the probe.
-#[derive(Default)]
+#[derive(Debug, Default)]
 struct Asked {
     taken: u64,
+    /// Refused calls by their number.
     refused: [u64; 12],
-    /// Accounts out of order, by the clauses that each breaks.
+    /// Accounts whose order was judged.
+    judged: u64,
+    /// Those out of order, by the clauses that each breaks, and by the one that it breaks alone.
     broken: [u64; Clause::ALL.len()],
     alone: [u64; Clause::ALL.len()],
 }
@@ -87,6 +90,7 @@ fn follow(right: &Register, fast: &mut limit::Register, asked: &mut Asked) {
         fast.put(at, &image);
         assert_eq!(fast.image(at), image);
         assert_eq!(fast.in_order(at), right.in_order(at, &Document), "{image:?}");
+        asked.judged += 1;
         let broken = broken(&image, &Document);
         let place = |clause: &Clause| Clause::ALL.iter().position(|other| other == clause).unwrap_or(0);
         broken.iter().for_each(|clause| asked.broken[place(clause)] += 1);
@@ -119,7 +123,7 @@ fn calls_on_any_register() {
             }
         }
     }
+    println!("{asked:?}");
     assert!(asked.taken > 1_000);
-    assert!((1..=11).all(|number| asked.refused[number] > 0), "{:?}", asked.refused);
-    assert!(asked.broken.iter().chain(&asked.alone).all(|count| *count > 0), "{:?} {:?}", asked.broken, asked.alone);
+    assert!(asked.refused[1..].iter().chain(&asked.broken).chain(&asked.alone).all(|count| *count > 0));
 }

@@ -28,15 +28,15 @@ impl MessageRules for Wrong {
     }
 
     fn write(&self, message: &Message, buffer: &mut [u8]) -> Result<usize, u8> {
-        let mut bytes = message.bytes();
         match (self.0, message) {
             (Fault::WriterCloseAmount, Message::Request { request, .. }) if request.event == Event::Close => {
-                bytes.extend([0; 4]);
-                let length = Document.write(message, buffer)?;
-                buffer.get_mut(..bytes.len()).ok_or(4)?[length..].copy_from_slice(&bytes[length..]);
-                Ok(bytes.len())
+                Document.write(message, &mut [0; HEAD])?;
+                let longer = buffer.get_mut(..HEAD + 4).ok_or(4)?;
+                longer.fill(0);
+                Document.write(message, longer)?;
+                Ok(longer.len())
             }
-            (Fault::WriterRoomFirst, _) if buffer.len() < bytes.len() => Err(4),
+            (Fault::WriterRoomFirst, _) if buffer.len() < message.bytes().len() => Err(4),
             _ => Document.write(message, buffer),
         }
     }

@@ -43,7 +43,7 @@ impl ProbeRules for Wrong {
                 let refused = |line: &str| line.starts_with("refused").then(|| line.replace(" 0", " 1"));
                 line.map(|line| refused(&line).unwrap_or(line))
             }
-            (_, 68, _) => {
+            (Fault::StepLeavesAccount, 68, _) => {
                 before.into_iter().for_each(|before| *register = before);
                 line
             }
