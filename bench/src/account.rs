@@ -1,21 +1,14 @@
 //! One account, kept as the list of its outcomes: a request looks along the list,
 //! an acceptance doubles it, a commit or an abort keeps one half of it.
 
-use crate::entry::{Entry, Says, Vote};
-use crate::event::{Event, State};
-use crate::fault::Fault;
+use crate::entry::Entry;
+use crate::event::{Event, EventRules, State};
 use crate::image::{Image, Place};
-use crate::message::{Message, COMMIT};
-use crate::rules::{Rules, PLACES};
+use crate::limits::PLACES;
+use crate::message::{Head, Message};
+use crate::outcomes::{Outcomes, Vote};
+use crate::request::Request;
 use std::collections::{HashMap, VecDeque};
-
-/// A request as it came.
-#[derive(Clone, Copy, PartialEq, Eq, Debug)]
-pub struct Request {
-    pub transaction: u32,
-    pub second: u32,
-    pub event: Event,
-}
 
 /// Where a transaction stands on the account.
 #[derive(Clone, Copy, PartialEq, Eq, Debug)]
@@ -29,274 +22,264 @@ pub enum Standing {
 #[derive(Clone, Debug)]
 pub struct Account {
     applied: State,
-    /// Events in progress in arrival order, with whether they are committed.
-    progress: VecDeque<(Request, bool)>,
+    /// Events in progress in arrival order.
+    progress: VecDeque<Place>,
     held: VecDeque<Request>,
     standing: HashMap<u32, Standing>,
-    /// The state in each outcome, at the place of its number.
-    outcomes: Vec<State>,
+    outcomes: Outcomes,
+}
+
+/// The sentences on requests, commits and aborts.
+pub trait AccountRules: EventRules {
+    /// So many events can be in progress.
+    fn places(&self) -> usize {
+        PLACES
+    }
+
+    /// So many requests can be held.
+    fn most_held(&self) -> usize {
+        PLACES
+    }
+
+    /// Whether as many are in progress as there can be, committed ones included.
+    fn full(&self, account: &Account) -> bool {
+        account.progress.len() >= self.places()
+    }
+
+    /// Whether a new request is held without being weighed.
+    fn unweighed(&self, account: &Account) -> bool {
+        !account.held.is_empty() || self.full(account)
+    }
+
+    /// How a request is decided by the outcomes.
+    fn weigh(&self, account: &Account, event: Event) -> Vote {
+        account.outcomes.vote(|state| self.guard(event, state))
+    }
+
+    /// The number in the entry of a request that was weighed.
+    fn count(&self, account: &Account) -> u16 {
+        account.outcomes.count() as u16
+    }
+
+    /// The number in the entry of a request that was not.
+    fn count_unweighed(&self, _: &Account) -> u16 {
+        0
+    }
+
+    /// Whether a request is refused: its transaction stands here, or the most are held.
+    fn request_refusal(&self, account: &Account, standing: Option<Standing>) -> Option<u8> {
+        match standing {
+            Some(_) => Some(6),
+            None => (account.held.len() >= self.most_held()).then_some(7),
+        }
+    }
+
+    /// Whether a commit is refused, by where its transaction stands.
+    fn commit_refusal(&self, standing: Option<Standing>) -> Option<u8> {
+        match standing {
+            None => Some(8),
+            Some(Standing::Held) => Some(9),
+            Some(Standing::Committed) => Some(10),
+            Some(Standing::Undecided) => None,
+        }
+    }
+
+    /// Whether an abort is refused, by where its transaction stands.
+    fn abort_refusal(&self, standing: Option<Standing>) -> Option<u8> {
+        match standing {
+            None => Some(8),
+            Some(Standing::Committed) => Some(11),
+            Some(Standing::Held | Standing::Undecided) => None,
+        }
+    }
+
+    /// An accepted request goes behind those in progress.
+    fn admit(&self, account: &mut Account, request: Request) {
+        account.admit(request, self);
+    }
+
+    /// The place in progress of the event that is applied next: the oldest, where it is committed.
+    fn next_applied(&self, account: &Account) -> Option<usize> {
+        account.progress.front().is_some_and(|oldest| oldest.committed).then_some(0)
+    }
+
+    /// The place in holding of the request that is weighed next: the oldest, where there is room in progress.
+    fn next_weighed(&self, account: &Account) -> Option<usize> {
+        (!account.held.is_empty() && !self.full(account)).then_some(0)
+    }
+
+    /// Applies what can be applied, after the call's own entry.
+    fn settle(&self, account: &mut Account, entries: &mut Vec<Entry>) {
+        while let Some(entry) = account.apply_next(self) {
+            entries.push(entry);
+        }
+    }
+
+    /// Decides the held requests that can be decided, after the applied entries.
+    fn drain(&self, account: &mut Account, entries: &mut Vec<Entry>) {
+        while let Some(entry) = account.decide_next(self) {
+            entries.push(entry);
+        }
+    }
+
+    /// The transaction number of an event that has ended may return.
+    fn release(&self, account: &mut Account, transaction: u32) {
+        account.standing.remove(&transaction);
+    }
+
+    /// The outcome question: state and number applied, none from 2 to the power u on.
+    fn outcome(&self, account: &Account, number: u32) -> Option<(State, u32)> {
+        account.outcomes().get(number as usize).map(|state| (*state, number.count_ones()))
+    }
+
+    /// A message as a whole: its entries, or the number of its refusal with nothing changed.
+    fn step(&self, account: &mut Account, message: &Message) -> Result<Vec<Entry>, u8> {
+        account.step(message, self)
+    }
 }
 
 impl Account {
-    /// The entries of a message's call, or the number of its refusal, with nothing changed.
-    pub fn take(&mut self, message: &Message, rules: &Rules) -> Result<Vec<Entry>, u8> {
-        let standing = self.standing.get(&message.transaction).copied();
-        if let Some(number) = self.refusal(message, standing, rules) {
+    /// The entries of a message, or the number of its refusal.
+    pub fn step(&mut self, message: &Message, rules: &impl AccountRules) -> Result<Vec<Entry>, u8> {
+        let standing = self.standing(message.head().transaction);
+        let refusal = match message {
+            Message::Request { .. } => rules.request_refusal(self, standing),
+            Message::Commit(_) => rules.commit_refusal(standing),
+            Message::Abort(_) => rules.abort_refusal(standing),
+        };
+        if let Some(number) = refusal {
             return Err(number);
         }
-        let mut entries = Vec::new();
-        match message.event() {
-            Some(event) => {
-                let request = Request { transaction: message.transaction, second: message.second, event };
-                self.request(request, rules, &mut entries);
-                return Ok(entries);
+        Ok(match message {
+            Message::Request { request, .. } => vec![self.request(*request, rules)],
+            Message::Commit(head) => {
+                let own = self.commit(head);
+                self.follow(own, rules)
             }
-            None if message.kind == COMMIT => self.commit(message, rules, &mut entries),
-            None => self.abort(message, rules, &mut entries),
-        }
-        let stuck = rules.has(Fault::AbortOfHeldDrainsNothing) && standing == Some(Standing::Held);
-        if !stuck {
-            self.settle(message, rules, &mut entries);
-            self.drain(rules, &mut entries);
-        }
-        Ok(entries)
+            Message::Abort(head) => {
+                let own = self.abort(head.transaction);
+                self.follow(own, rules)
+            }
+        })
     }
 
-    /// The first of refusals 6 to 11 that applies, if any.
-    fn refusal(&self, message: &Message, standing: Option<Standing>, rules: &Rules) -> Option<u8> {
-        let swapped = rules.has(Fault::TenElevenSwapped);
-        let most = PLACES + usize::from(rules.has(Fault::NineHeld));
-        match (message.event().is_some(), message.kind == COMMIT, standing) {
-            (true, _, Some(_)) if rules.has(Fault::SevenBeforeSix) && self.held.len() >= most => Some(7),
-            (true, _, Some(_)) => Some(6),
-            (true, _, None) => (self.held.len() >= most).then_some(7),
-            (false, _, None) => Some(8),
-            (false, true, Some(Standing::Held)) if rules.has(Fault::EightForHeld) => Some(8),
-            (false, true, Some(Standing::Held)) => Some(9),
-            (false, true, Some(Standing::Committed)) => Some(if swapped { 11 } else { 10 }),
-            (false, false, Some(Standing::Committed)) if rules.has(Fault::AbortOfCommitted) => None,
-            (false, false, Some(Standing::Committed)) => Some(if swapped { 10 } else { 11 }),
-            (false, _, Some(_)) => None,
-        }
+    /// The entries of a commit or an abort, its own first.
+    fn follow(&mut self, own: Entry, rules: &impl AccountRules) -> Vec<Entry> {
+        let mut entries = vec![own];
+        rules.settle(self, &mut entries);
+        rules.drain(self, &mut entries);
+        entries
     }
 
-    /// Decides a request: held unweighed behind others or where 8 are in progress, else weighed.
-    fn request(&mut self, request: Request, rules: &Rules, entries: &mut Vec<Entry>) {
-        let behind = !self.held.is_empty() && !rules.has(Fault::RequestPassesHeld);
-        let (vote, count) = if behind || self.full(rules) {
-            let told = rules.has(Fault::CountOfUnweighed);
-            (Vote::Held, if told { self.outcomes.len() as u16 } else { 0 })
+    /// Decides a request: held unweighed, or weighed.
+    fn request(&mut self, request: Request, rules: &impl AccountRules) -> Entry {
+        let (vote, outcomes) = if rules.unweighed(self) {
+            (Vote::Held, rules.count_unweighed(self))
         } else {
-            self.weigh(request.event, rules)
+            (rules.weigh(self, request.event), rules.count(self))
         };
-        entries.push(request.entry(Says::Voted(vote, request.event, count)));
         match vote {
-            Vote::Accepted => self.admit(request, rules),
+            Vote::Accepted => rules.admit(self, request),
             Vote::Rejected => {}
-            Vote::Held => {
-                self.standing.insert(request.transaction, Standing::Held);
-                self.held.push_back(request);
-            }
+            Vote::Held => self.hold(request),
         }
-    }
-
-    /// Whether no further event is taken in progress.
-    fn full(&self, rules: &Rules) -> bool {
-        let counted = if rules.has(Fault::UndecidedFillPlaces) { self.undecided() } else { self.progress.len() };
-        counted >= rules.places + usize::from(rules.has(Fault::NinePlaces))
-    }
-
-    /// Whether the guard holds in every outcome, in none or in some, and how many there are.
-    fn weigh(&self, event: Event, rules: &Rules) -> (Vote, u16) {
-        let mut weighed = self.outcomes.as_slice();
-        let ends = [weighed[0], weighed[weighed.len() - 1]];
-        if rules.has(Fault::OnlyAllOrNone) {
-            weighed = &ends;
-        }
-        let yes = weighed.iter().filter(|state| event.guard(**state, rules)).count();
-        let vote = match yes {
-            0 => Vote::Rejected,
-            _ if yes == weighed.len() => Vote::Accepted,
-            _ => Vote::Held,
-        };
-        let count = if rules.has(Fault::CountOfInProgress) { 1 << self.progress.len() } else { self.outcomes.len() };
-        (vote, count as u16)
-    }
-
-    /// Takes a request in progress: beside each outcome without it stands one with it.
-    fn admit(&mut self, request: Request, rules: &Rules) {
-        for number in 0..self.outcomes.len() {
-            self.outcomes.push(request.event.effect(self.outcomes[number], rules));
-        }
-        self.standing.insert(request.transaction, Standing::Undecided);
-        self.progress.push_back((request, false));
-        self.misfile(rules);
-    }
-
-    /// A fault: the events in progress in another order than that of arrival.
-    fn misfile(&mut self, rules: &Rules) {
-        let key: fn(&(Request, bool)) -> u32 = match rules.fault {
-            Some(Fault::FiledByTransaction) => |event| event.0.transaction,
-            Some(Fault::FiledBySecond) => |event| event.0.second,
-            _ => return,
-        };
-        self.progress.make_contiguous().sort_by_key(key);
-        self.outcomes = vec![self.applied];
-        for (request, committed) in &self.progress {
-            let after: Vec<State> = self.outcomes.iter().map(|state| request.event.effect(*state, rules)).collect();
-            self.outcomes.retain(|_| !committed);
-            self.outcomes.extend(after);
-        }
+        Entry::Voted { vote, request, outcomes }
     }
 
     /// Marks an undecided event: the outcomes in which it is applied are left.
-    fn commit(&mut self, message: &Message, rules: &Rules, entries: &mut Vec<Entry>) {
-        entries.push(Entry { transaction: message.transaction, second: message.second, says: Says::Noted });
-        let at = self.place(message.transaction);
-        self.keep_half(at, true);
-        self.progress[at].1 = true;
-        self.standing.insert(message.transaction, Standing::Committed);
-        if rules.has(Fault::CommitAppliedAtOnce) {
-            self.apply(at, message, rules, entries);
-        }
+    fn commit(&mut self, head: &Head) -> Entry {
+        let at = self.place(head.transaction);
+        self.outcomes.halve(self.bit(at), true);
+        self.progress[at].committed = true;
+        self.standing.insert(head.transaction, Standing::Committed);
+        Entry::Noted { transaction: head.transaction, second: head.second }
     }
 
-    /// Takes an undecided event or a held request out: the outcomes without it are left.
-    fn abort(&mut self, message: &Message, rules: &Rules, entries: &mut Vec<Entry>) {
-        let request = match self.standing.remove(&message.transaction) {
-            Some(Standing::Held) => {
-                let at = self.held.iter().position(|held| held.transaction == message.transaction);
-                at.and_then(|at| self.held.remove(at))
-            }
-            standing => {
-                let at = self.place(message.transaction);
-                if standing == Some(Standing::Undecided) {
-                    self.keep_half(at, false);
-                }
-                self.progress.remove(at).map(|event| event.0)
-            }
+    /// Takes out an event in progress, or else a held request: the outcomes without it are left.
+    pub fn abort(&mut self, transaction: u32) -> Entry {
+        let request = if self.standing.remove(&transaction) == Some(Standing::Held) {
+            let at = self.held.iter().position(|request| request.transaction == transaction).unwrap_or(0);
+            self.held.remove(at)
+        } else {
+            let at = self.place(transaction);
+            self.outcomes.halve(self.bit(at), false);
+            self.progress.remove(at).map(|place| place.request)
         };
-        let Some(request) = request else { return };
-        let mut entry = request.entry(Says::Dropped(request.event));
-        if rules.has(Fault::AbortSecondInDropped) {
-            entry.second = message.second;
-        }
-        entries.push(entry);
+        Entry::Dropped { request: request.unwrap_or(Place::BLANK.request) }
     }
 
-    /// Applies the oldest event while it is committed.
-    fn settle(&mut self, message: &Message, rules: &Rules, entries: &mut Vec<Entry>) {
-        let first = entries.len();
-        while self.progress.front().is_some_and(|event| event.1) {
-            self.apply(0, message, rules, entries);
-            if rules.has(Fault::OneAppliedACall) {
-                break;
-            }
-        }
-        if rules.has(Fault::BalanceAfterCall) {
-            for entry in &mut entries[first..] {
-                entry.says = Says::Applied(entry.event().unwrap_or(Event::Close), self.applied.balance);
-            }
-        }
+    /// Ends the event that is applied next, if any: its effect is applied.
+    pub fn apply_next(&mut self, rules: &impl AccountRules) -> Option<Entry> {
+        let Place { request, .. } = self.progress.remove(rules.next_applied(self)?)?;
+        self.applied = rules.effect(request.event, self.applied);
+        rules.release(self, request.transaction);
+        Some(Entry::Applied { request, balance: self.applied.balance })
     }
 
-    /// Ends the event in progress at a place: its effect is applied.
-    fn apply(&mut self, at: usize, message: &Message, rules: &Rules, entries: &mut Vec<Entry>) {
-        let Some((request, _)) = self.progress.remove(at) else { return };
-        self.applied = request.event.effect(self.applied, rules);
-        if !rules.has(Fault::NumberNeverReturns) {
-            self.standing.remove(&request.transaction);
+    /// Weighs the held request that is weighed next, if any, as if nothing were held; none where it stays held.
+    pub fn decide_next(&mut self, rules: &impl AccountRules) -> Option<Entry> {
+        let at = rules.next_weighed(self)?;
+        let request = self.held[at];
+        let (vote, outcomes) = (rules.weigh(self, request.event), rules.count(self));
+        if vote == Vote::Held {
+            return None;
         }
-        let mut entry = request.entry(Says::Applied(request.event, self.applied.balance));
-        if rules.has(Fault::CommitSecondInApplied) {
-            entry.second = message.second;
+        self.held.remove(at);
+        self.standing.remove(&request.transaction);
+        if vote == Vote::Accepted {
+            rules.admit(self, request);
         }
-        entries.push(entry);
+        Some(Entry::Voted { vote, request, outcomes })
     }
 
-    /// Weighs the held requests from the oldest on, until one is to stay held.
-    fn drain(&mut self, rules: &Rules, entries: &mut Vec<Entry>) {
-        let applied = entries.iter().any(|entry| matches!(entry.says, Says::Applied(..)));
-        if rules.has(Fault::HeldNeedsApplication) && !applied {
-            return;
-        }
-        let mut at = 0;
-        while at < self.held.len() && !self.full(rules) {
-            let request = self.held[at];
-            let (vote, count) = self.weigh(request.event, rules);
-            if vote == Vote::Held && rules.has(Fault::LaterHeldPasses) {
-                at += 1;
-                continue;
-            }
-            if vote != Vote::Held || rules.has(Fault::EntryForStaying) {
-                entries.push(request.entry(Says::Voted(vote, request.event, count)));
-            }
-            if vote == Vote::Held {
-                break;
-            }
-            self.held.remove(at);
-            self.standing.remove(&request.transaction);
-            if vote == Vote::Accepted {
-                self.admit(request, rules);
-            }
-            if rules.has(Fault::OneHeldACall) {
-                break;
-            }
-        }
+    /// Takes a request in progress, undecided, as the newest.
+    pub fn admit(&mut self, request: Request, rules: &impl EventRules) {
+        self.outcomes.double(|state| rules.effect(request.event, state));
+        self.standing.insert(request.transaction, Standing::Undecided);
+        self.progress.push_back(Place { request, committed: false });
+    }
+
+    /// Takes a request into holding, as the newest.
+    fn hold(&mut self, request: Request) {
+        self.standing.insert(request.transaction, Standing::Held);
+        self.held.push_back(request);
     }
 
     /// The place of a transaction among the events in progress.
     fn place(&self, transaction: u32) -> usize {
-        self.progress.iter().position(|event| event.0.transaction == transaction).unwrap_or(0)
+        self.progress.iter().position(|place| place.request.transaction == transaction).unwrap_or(0)
     }
 
-    /// Keeps the outcomes in which the undecided event at a place is applied, or those in which it is not.
-    fn keep_half(&mut self, at: usize, applied: bool) {
-        let bit = self.progress.iter().take(at).filter(|event| !event.1).count();
-        let mut number = 0;
-        self.outcomes.retain(|_| {
-            number += 1;
-            (number - 1) >> bit & 1 == usize::from(applied)
-        });
-    }
-}
-
-impl Request {
-    /// An entry of this request.
-    fn entry(&self, says: Says) -> Entry {
-        Entry { transaction: self.transaction, second: self.second, says }
+    /// The bit that the undecided event at a place has in an outcome's number.
+    fn bit(&self, at: usize) -> usize {
+        self.progress.iter().take(at).filter(|place| !place.committed).count()
     }
 }
 
 /// What can be asked of an account, and its stored form.
 impl Account {
-    /// A fresh account.
-    pub fn fresh() -> Account {
-        Account::stored(&Image::FRESH, &Rules::DOCUMENT)
-    }
-
-    /// The account of a stored form that is in order.
-    pub fn stored(image: &Image, rules: &Rules) -> Account {
-        let mut account = Account {
-            applied: image.state,
+    /// An account with nothing in progress or held.
+    pub fn of(applied: State) -> Account {
+        Account {
+            applied,
             progress: VecDeque::new(),
             held: VecDeque::new(),
             standing: HashMap::new(),
-            outcomes: vec![image.state],
-        };
+            outcomes: Outcomes::of(applied),
+        }
+    }
+
+    /// The account of a stored form that is in order.
+    pub fn stored(image: &Image, rules: &impl EventRules) -> Account {
+        let mut account = Account::of(image.state);
         for place in image.progress_places() {
-            account.admit(place.request(), rules);
+            account.admit(place.request, rules);
             if place.committed {
-                let at = account.progress.len() - 1;
-                account.keep_half(at, true);
-                account.progress[at].1 = true;
-                account.standing.insert(place.transaction, Standing::Committed);
+                let Request { transaction, second, .. } = place.request;
+                account.commit(&Head { transaction, account: 0, second });
             }
         }
-        for place in image.held_places() {
-            account.standing.insert(place.transaction, Standing::Held);
-            account.held.push_back(place.request());
-        }
+        image.held_places().iter().for_each(|place| account.hold(place.request));
         account
     }
 
@@ -306,30 +289,24 @@ impl Account {
         image.in_progress = self.progress.len() as u32;
         image.held = self.held.len() as u32;
         let (first, second) = image.places.split_at_mut(PLACES);
-        for (place, (request, committed)) in first.iter_mut().zip(&self.progress) {
-            *place = request.place(*committed);
-        }
-        for (place, request) in second.iter_mut().zip(&self.held) {
-            *place = request.place(false);
-        }
+        first.iter_mut().zip(&self.progress).for_each(|(place, event)| *place = *event);
+        second.iter_mut().zip(&self.held).for_each(|(place, request)| place.request = *request);
         image
-    }
-
-    /// The state in an outcome and how many undecided events it applies, none from 2 to the power u on.
-    pub fn outcome(&self, number: u32, rules: &Rules) -> Option<(State, u32)> {
-        let mut at = number as usize;
-        if rules.has(Fault::OutcomeOneMore) && at == self.outcomes.len() {
-            return Some((self.outcomes[0], number.count_ones()));
-        }
-        if rules.has(Fault::BitsFromNewest) && at < self.outcomes.len() {
-            at = (0..self.undecided()).fold(0, |turned, bit| turned << 1 | at >> bit & 1);
-        }
-        self.outcomes.get(at).map(|state| (*state, number.count_ones()))
     }
 
     /// The number of undecided events in progress.
     pub fn undecided(&self) -> usize {
-        self.progress.iter().filter(|event| !event.1).count()
+        self.bit(self.progress.len())
+    }
+
+    /// The events in progress, in arrival order.
+    pub fn progress(&self) -> impl ExactSizeIterator<Item = &Place> {
+        self.progress.iter()
+    }
+
+    /// The held requests, in arrival order.
+    pub fn held(&self) -> impl ExactSizeIterator<Item = &Request> {
+        self.held.iter()
     }
 
     /// Where a transaction stands here, if anywhere.
@@ -339,27 +316,13 @@ impl Account {
 
     /// The transactions with a standing, in arrival order.
     pub fn with(&self, standing: Standing) -> Vec<u32> {
-        let progress = self.progress.iter().map(|event| event.0.transaction);
+        let progress = self.progress.iter().map(|place| place.request.transaction);
         let held = self.held.iter().map(|request| request.transaction);
         progress.chain(held).filter(|transaction| self.standing(*transaction) == Some(standing)).collect()
     }
 
     /// The state in each outcome, in the order of their numbers.
     pub fn outcomes(&self) -> &[State] {
-        &self.outcomes
-    }
-}
-
-impl Request {
-    /// The place that holds this request.
-    fn place(&self, committed: bool) -> Place {
-        Place { transaction: self.transaction, second: self.second, event: self.event, committed }
-    }
-}
-
-impl Place {
-    /// The request that a place holds.
-    fn request(&self) -> Request {
-        Request { transaction: self.transaction, second: self.second, event: self.event }
+        self.outcomes.states()
     }
 }

@@ -1,8 +1,8 @@
 //! The comparison: the same stream to the model and to the subject, their text byte for byte.
 
 use crate::document::{examples, Example};
-use crate::fault::Fault;
-use crate::rules::Rules;
+use crate::fault::{Fault, Wrong};
+use crate::rules::Document;
 use crate::shrink::shrink;
 use crate::streams::{stream, Stream};
 use crate::subject::{Subject, Target, Version};
@@ -70,7 +70,7 @@ pub fn compare(subject: &dyn Subject, plan: &Plan) -> Found {
         }
         for (at, target) in targets.iter().enumerate() {
             let stream = stream(*target, plan.seed, number);
-            let expected = stream.target.text(&stream.bytes, Rules::DOCUMENT);
+            let expected = stream.target.text(&stream.bytes, &Document);
             found.tallies[at].1.add(stream.target, &stream.bytes, &expected);
             let same = subject.answer(stream.target, &stream.bytes).is_ok_and(|got| got == expected.as_bytes());
             found.count(same);
@@ -125,7 +125,7 @@ fn compare_examples(subject: &dyn Subject, targets: &[Target], plan: &Plan, foun
 fn compare_unread(subject: &dyn Subject, targets: &[Target], found: &mut Found) {
     for target in targets {
         let Some(got) = subject.answer_unread(*target) else { continue };
-        let same = got.is_ok_and(|got| got == target.text(&[], Rules::DOCUMENT).into_bytes());
+        let same = got.is_ok_and(|got| got == target.text(&[], &Document).into_bytes());
         found.count(same);
         if !same {
             found.wrong_unread.push(*target);
@@ -137,27 +137,27 @@ fn compare_unread(subject: &dyn Subject, targets: &[Target], found: &mut Found) 
 fn tell(subject: &dyn Subject, seed: u64, number: u64, stream: Stream) -> Difference {
     let target = stream.target;
     let shrunk = shrink(target, &stream.bytes, |bytes| differs(subject, target, bytes));
-    let expected = target.text(&shrunk, Rules::DOCUMENT);
+    let expected = target.text(&shrunk, &Document);
     let got = subject.answer(target, &shrunk);
     Difference { seed, number, stream, shrunk, expected, got }
 }
 
 /// Whether the subject answers otherwise than the model.
 pub fn differs(subject: &dyn Subject, target: Target, input: &[u8]) -> bool {
-    let expected = target.text(input, Rules::DOCUMENT);
+    let expected = target.text(input, &Document);
     subject.answer(target, input).map_or(true, |got| got != expected.as_bytes())
 }
 
 /// How many streams of a program it takes to find a fault; none if more than `most`.
 pub fn streams_until(fault: Fault, target: Target, seed: u64, most: u64) -> Option<u64> {
-    let wrong = Version(Rules::wrong(fault));
+    let wrong = Version(Wrong(fault));
     let found = (0..most).find(|number| differs(&wrong, target, &stream(target, seed, *number).bytes))?;
     Some(found + 1)
 }
 
 /// A short stream that shows a fault, made from the stream that found it.
 pub fn shortest(fault: Fault, target: Target, seed: u64, streams: u64) -> Vec<u8> {
-    let wrong = Version(Rules::wrong(fault));
+    let wrong = Version(Wrong(fault));
     let bytes = stream(target, seed, streams - 1).bytes;
     shrink(target, &bytes, |bytes| differs(&wrong, target, bytes))
 }

@@ -4,11 +4,14 @@
 //! for a while. A user requests on every account of the transfer, commits when all accept, aborts
 //! when one rejects or when it takes too long (two transfers can wait on each other), and starts anew.
 
-use crate::entry::{Says, Vote};
-use crate::message::{Message, ABORT, COMMIT};
+use crate::entry::Entry;
+use crate::event::Event;
+use crate::limits::{LIMIT, ROOM};
+use crate::message::{Head, Message};
+use crate::outcomes::Vote;
 use crate::random::Random;
-use crate::register::{Register, Taken};
-use crate::rules::{Rules, LIMIT, ROOM};
+use crate::register::{Register, RegisterRules, Taken};
+use crate::rules::Places;
 use std::collections::{BTreeMap, HashMap};
 
 /// Which accounts the transfers are on.
@@ -85,11 +88,10 @@ struct World {
 
 /// Runs a simulation.
 pub fn simulate(setting: Setting) -> Outcome {
-    let rules = Rules { places: setting.places, ..Rules::DOCUMENT };
     let mut world = World {
         setting,
         random: Random::of(setting.seed, 0),
-        register: Register::fresh(rules),
+        register: Register::fresh(),
         agenda: BTreeMap::new(),
         entered: 0,
         handled: 0,
@@ -117,8 +119,8 @@ impl World {
         for account in 0..16 {
             let few = self.setting.pattern == Pattern::Tight && account == 0;
             let amount = if few { 25 } else { LIMIT / 2 };
-            let open = Message { kind: 1, transaction: u32::from(account), account, second: 0, amount };
-            for message in [open, Message { kind: COMMIT, amount: 0, ..open }] {
+            let head = Head { transaction: u32::from(account), account, second: 0 };
+            for message in [Message::request(head, Event::Open(amount)), Message::Commit(head)] {
                 let taken = self.send(message);
                 debug_assert!(taken.is_ok());
             }
@@ -127,10 +129,10 @@ impl World {
 
     /// Hands a message to the register.
     fn send(&mut self, message: Message) -> Result<Taken, u8> {
-        let bytes = message.bytes(&Rules::DOCUMENT);
+        let bytes = message.bytes();
         self.handled += 1;
         self.result.messages.extend(&bytes);
-        self.register.take(&bytes, ROOM)
+        Places(self.setting.places).take(&mut self.register, &bytes, ROOM)
     }
 
     /// Sets something down for a later tick.
@@ -170,8 +172,9 @@ impl World {
             Pattern::Tight => (Some(0), quiet),
         };
         let amount = self.random.between(1, 10) as u32;
-        let message = |kind, account| Message { kind, transaction, account, second: 0, amount };
-        from.map(|from| message(2, from)).into_iter().chain([message(3, to)]).collect()
+        let message = |event, account| Message::request(Head { transaction, account, second: 0 }, event);
+        let from = from.map(|from| message(Event::Withdraw(amount), from));
+        from.into_iter().chain([message(Event::Deposit(amount), to)]).collect()
     }
 
     /// Lets something happen; gives the ticks that it takes.
@@ -179,7 +182,7 @@ impl World {
         match happening {
             Happening::TooLong(transaction) => {
                 if self.transfers.get(&transaction).is_some_and(|transfer| !transfer.decided) {
-                    self.decide(transaction, ABORT, tick);
+                    self.decide(transaction, Message::Abort, tick);
                 }
                 0
             }
@@ -192,8 +195,8 @@ impl World {
 
     /// A message reaches the register, unless it is a request of a transfer given up by now.
     fn arrive(&mut self, message: Message, tick: u64) {
-        let request = message.event().is_some();
-        let open = self.transfers.get(&message.transaction).is_some_and(|transfer| !transfer.decided);
+        let request = matches!(message, Message::Request { .. });
+        let open = self.transfers.get(&message.head().transaction).is_some_and(|transfer| !transfer.decided);
         if request && !open {
             return;
         }
@@ -201,7 +204,7 @@ impl World {
         match self.send(message) {
             Ok(taken) => {
                 for entry in &taken.entries {
-                    self.hear(entry.transaction, taken.account, entry.says, tick);
+                    self.hear(entry, taken.account, tick);
                 }
             }
             Err(_) if request => {
@@ -214,39 +217,41 @@ impl World {
     }
 
     /// A user hears of an entry.
-    fn hear(&mut self, transaction: u32, account: u16, says: Says, tick: u64) {
-        if !matches!(says, Says::Voted(Vote::Held, ..)) {
-            if let Some(since) = self.held.remove(&(transaction, account)) {
-                self.result.waits.push(self.handled - since);
-            }
+    fn hear(&mut self, entry: &Entry, account: u16, tick: u64) {
+        let (transaction, _) = entry.filed();
+        let vote = match entry {
+            Entry::Voted { vote, .. } => Some(*vote),
+            _ => None,
+        };
+        if vote == Some(Vote::Held) {
+            self.held.insert((transaction, account), self.handled);
+        } else if let Some(since) = self.held.remove(&(transaction, account)) {
+            self.result.waits.push(self.handled - since);
         }
-        match says {
-            Says::Voted(Vote::Held, ..) => {
-                self.held.insert((transaction, account), self.handled);
-            }
-            Says::Voted(Vote::Accepted, ..) => {
+        match vote {
+            Some(Vote::Rejected) => self.decide(transaction, Message::Abort, tick + TRAVEL),
+            Some(Vote::Accepted) => {
                 let Some(transfer) = self.transfers.get_mut(&transaction) else { return };
                 transfer.accepted += 1;
                 if transfer.accepted == transfer.requests.len() && !transfer.decided {
-                    self.decide(transaction, COMMIT, tick + TRAVEL);
+                    self.decide(transaction, Message::Commit, tick + TRAVEL);
                 }
             }
-            Says::Voted(Vote::Rejected, ..) => self.decide(transaction, ABORT, tick + TRAVEL),
-            Says::Noted | Says::Applied(..) | Says::Dropped(_) => {}
+            _ => {}
         }
     }
 
     /// A user decides a transfer on every account of it, and starts another.
-    fn decide(&mut self, transaction: u32, kind: u8, tick: u64) {
+    fn decide(&mut self, transaction: u32, decision: fn(Head) -> Message, tick: u64) {
         let Some(transfer) = self.transfers.get_mut(&transaction) else { return };
         if std::mem::replace(&mut transfer.decided, true) {
             return;
         }
-        for request in transfer.requests.clone() {
-            self.travel(tick, Message { kind, amount: 0, ..request });
-        }
-        self.result.transfers += u64::from(kind == COMMIT);
-        self.result.aborted += u64::from(kind == ABORT);
+        let sent: Vec<Message> = transfer.requests.iter().map(|request| decision(request.head())).collect();
+        let committed = sent.iter().all(|message| matches!(message, Message::Commit(_)));
+        sent.into_iter().for_each(|message| self.travel(tick, message));
+        self.result.transfers += u64::from(committed);
+        self.result.aborted += u64::from(!committed);
         self.start(transaction % 1_000, tick + 2 * TRAVEL);
     }
 }

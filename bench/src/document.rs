@@ -1,7 +1,6 @@
 //! Document 01's own examples as streams: the sample, cases 1 to 10, the programs that would look right.
 
-use crate::message::Message;
-use crate::rules::Rules;
+use crate::message::{Head, Message, KINDS};
 use crate::subject::Target;
 
 /// A stream with the end of the text that document 01 gives for it.
@@ -191,14 +190,13 @@ fn join(first: &str, second: &str) -> String {
 
 /// The bytes of messages given as words: name, transaction, perhaps an amount; account 0, second 100.
 pub fn messages(words: &str) -> Vec<Vec<u8>> {
-    let names = ["open", "withdraw", "deposit", "close", "commit", "abort"];
     let all = words.split(',').map(str::trim).filter(|message| !message.is_empty());
     all.map(|message| {
         let words: Vec<&str> = message.split_whitespace().collect();
         let number = |at: usize| words.get(at).and_then(|word| word.parse().ok()).unwrap_or(0);
-        let kind = names.iter().position(|name| *name == words[0]).map_or(0, |at| at as u8 + 1);
-        let message = Message { kind, transaction: number(1), account: 0, second: 100, amount: number(2) };
-        message.bytes(&Rules::DOCUMENT)
+        let kind = KINDS.iter().find(|kind| kind.1 == words[0]).map_or(0, |kind| kind.0);
+        let head = Head { transaction: number(1), account: 0, second: 100 };
+        Message::of(kind, head, number(2)).map_or(Vec::new(), |message| message.bytes())
     })
     .collect()
 }

@@ -1,102 +1,114 @@
 //! Entries: what they carry, their bytes, their reader, their line of text.
 
+use crate::bytes::Numbers;
 use crate::event::Event;
-use crate::fault::Fault;
-use crate::message::Numbers;
-use crate::rules::{Rules, ACCOUNTS};
+use crate::limits::ACCOUNTS;
+use crate::outcomes::Vote;
+use crate::request::Request;
 
-/// How a request is decided.
-#[derive(Clone, Copy, PartialEq, Eq, Debug)]
-pub enum Vote {
-    Accepted,
-    Rejected,
-    Held,
-}
-
-/// What an entry says beyond its transaction, account and second.
-#[derive(Clone, Copy, PartialEq, Eq, Debug)]
-pub enum Says {
-    /// A vote with the number of outcomes weighed.
-    Voted(Vote, Event, u16),
-    Noted,
-    /// Applied, with the balance after.
-    Applied(Event, u32),
-    Dropped(Event),
-}
+/// Each kind with its name and its whole length.
+pub const KINDS: [(u8, &str, usize); 6] = [
+    (ACCEPTED, "accepted", 18),
+    (REJECTED, "rejected", 18),
+    (HELD, "held", 18),
+    (NOTED, "noted", 11),
+    (APPLIED, "applied", 20),
+    (DROPPED, "dropped", 16),
+];
+pub const ACCEPTED: u8 = 17;
+pub const REJECTED: u8 = 18;
+pub const HELD: u8 = 19;
+pub const NOTED: u8 = 20;
+pub const APPLIED: u8 = 21;
+pub const DROPPED: u8 = 22;
 
 /// An entry; the account it is on stands beside it.
 #[derive(Clone, Copy, PartialEq, Eq, Debug)]
-pub struct Entry {
-    pub transaction: u32,
-    pub second: u32,
-    pub says: Says,
+pub enum Entry {
+    /// A vote, with the number of outcomes weighed.
+    Voted { vote: Vote, request: Request, outcomes: u16 },
+    /// A commit noted, with the commit's own second.
+    Noted { transaction: u32, second: u32 },
+    /// An event applied, with the balance after it.
+    Applied { request: Request, balance: u32 },
+    /// An event in progress or a held request dropped.
+    Dropped { request: Request },
 }
 
 impl Entry {
     /// What stands in a place for an entry that has none.
-    pub const BLANK: Entry = Entry { transaction: 0, second: 0, says: Says::Noted };
+    pub const BLANK: Entry = Entry::Noted { transaction: 0, second: 0 };
 
-    /// The kind, 17 to 22.
+    /// The kind.
     pub fn kind(&self) -> u8 {
-        match self.says {
-            Says::Voted(Vote::Accepted, ..) => 17,
-            Says::Voted(Vote::Rejected, ..) => 18,
-            Says::Voted(Vote::Held, ..) => 19,
-            Says::Noted => 20,
-            Says::Applied(..) => 21,
-            Says::Dropped(_) => 22,
+        match self {
+            Entry::Voted { vote: Vote::Accepted, .. } => ACCEPTED,
+            Entry::Voted { vote: Vote::Rejected, .. } => REJECTED,
+            Entry::Voted { vote: Vote::Held, .. } => HELD,
+            Entry::Noted { .. } => NOTED,
+            Entry::Applied { .. } => APPLIED,
+            Entry::Dropped { .. } => DROPPED,
         }
     }
 
-    /// The event, where the entry has one.
-    pub fn event(&self) -> Option<Event> {
-        match self.says {
-            Says::Voted(_, event, _) | Says::Applied(event, _) | Says::Dropped(event) => Some(event),
-            Says::Noted => None,
+    /// The request that it is of, where it has one.
+    pub fn request(&self) -> Option<Request> {
+        match *self {
+            Entry::Voted { request, .. } | Entry::Applied { request, .. } | Entry::Dropped { request } => Some(request),
+            Entry::Noted { .. } => None,
+        }
+    }
+
+    /// The transaction and the second.
+    pub fn filed(&self) -> (u32, u32) {
+        match (*self, self.request()) {
+            (Entry::Noted { transaction, second }, _) => (transaction, second),
+            (_, request) => request.map_or((0, 0), |request| (request.transaction, request.second)),
         }
     }
 
     /// The outcomes weighed or the balance after, where the entry has them.
     pub fn last(&self) -> Option<u32> {
-        match self.says {
-            Says::Voted(_, _, outcomes) => Some(u32::from(outcomes)),
-            Says::Applied(_, balance) => Some(balance),
-            Says::Noted | Says::Dropped(_) => None,
+        match *self {
+            Entry::Voted { outcomes, .. } => Some(outcomes.into()),
+            Entry::Applied { balance, .. } => Some(balance),
+            Entry::Noted { .. } | Entry::Dropped { .. } => None,
         }
     }
 
     /// What the kind has of event kind, amount, outcomes and balance, each behind the separator.
     pub fn numbers(&self, separator: char) -> String {
-        let event = self.event().map(|event| [u32::from(event.kind()), event.amount()]);
+        let event = self.request().map(|request| [u32::from(request.event.kind()), request.event.amount()]);
         let all = event.into_iter().flatten().chain(self.last());
         all.map(|number| format!("{separator}{number}")).collect()
     }
 
     /// The bytes of the layout.
     pub fn bytes(&self, account: u16) -> Vec<u8> {
+        let (transaction, second) = self.filed();
         let mut bytes = Vec::with_capacity(20);
         bytes.push(self.kind());
-        bytes.extend(self.transaction.to_be_bytes());
+        bytes.extend(transaction.to_be_bytes());
         bytes.extend(account.to_be_bytes());
-        bytes.extend(self.second.to_be_bytes());
-        if let Some(event) = self.event() {
+        bytes.extend(second.to_be_bytes());
+        if let Some(Request { event, .. }) = self.request() {
             bytes.push(event.kind());
             bytes.extend(event.amount().to_be_bytes());
         }
-        match self.says {
-            Says::Voted(_, _, outcomes) => bytes.extend(outcomes.to_be_bytes()),
-            Says::Applied(_, balance) => bytes.extend(balance.to_be_bytes()),
-            Says::Noted | Says::Dropped(_) => {}
+        match self {
+            Entry::Voted { outcomes, .. } => bytes.extend(outcomes.to_be_bytes()),
+            Entry::Applied { balance, .. } => bytes.extend(balance.to_be_bytes()),
+            Entry::Noted { .. } | Entry::Dropped { .. } => {}
         }
         bytes
     }
 
     /// The line of the program, without its newline.
     pub fn line(&self, account: u16) -> String {
-        let names = ["accepted", "rejected", "held", "noted", "applied", "dropped"];
-        let name = names[usize::from(self.kind() - 17)];
-        let mut line = format!("{name} {} {account} {}", self.transaction, self.second);
-        if let Some(event) = self.event() {
+        let (transaction, second) = self.filed();
+        let name = kind(self.kind()).map_or("", |kind| kind.0);
+        let mut line = format!("{name} {transaction} {account} {second}");
+        if let Some(Request { event, .. }) = self.request() {
             line += &format!(" {} {}", event.name(), event.amount());
         }
         if let Some(last) = self.last() {
@@ -106,43 +118,41 @@ impl Entry {
     }
 }
 
-/// The whole length of an entry of the kind, none for a kind that is not listed.
-pub fn length(kind: u8) -> Option<usize> {
-    match kind {
-        17..=19 => Some(18),
-        20 => Some(11),
-        21 => Some(20),
-        22 => Some(16),
-        _ => None,
+/// The name and the whole length of a kind, none for a kind that is not listed.
+pub fn kind(number: u8) -> Option<(&'static str, usize)> {
+    KINDS.iter().find(|kind| kind.0 == number).map(|kind| (kind.1, kind.2))
+}
+
+/// The reader by itself.
+pub trait EntryRules {
+    /// The entry at the beginning of the bytes, with its account and length, by the layout alone.
+    fn read_entry(&self, bytes: &[u8]) -> Option<(Entry, u16, usize)> {
+        let number = *bytes.first()?;
+        let (_, whole) = kind(number)?;
+        let mut numbers = Numbers { bytes: bytes.get(1..whole)? };
+        let transaction = numbers.next(4);
+        let account = numbers.next(2) as u16;
+        let second = numbers.next(4);
+        let entry = match number {
+            NOTED => Entry::Noted { transaction, second },
+            _ => of_request(number, transaction, second, &mut numbers)?,
+        };
+        (usize::from(account) < ACCOUNTS).then_some((entry, account, whole))
     }
 }
 
-/// The entry at the beginning of the bytes, with its account and length, by the layout alone.
-pub fn read(bytes: &[u8], rules: &Rules) -> Option<(Entry, u16, usize)> {
-    let kind = *bytes.first()?;
-    let whole = length(kind)?;
-    let mut numbers = Numbers { bytes: bytes.get(1..whole)? };
-    let transaction = numbers.next(4);
-    let account = numbers.next(2) as u16;
-    let second = numbers.next(4);
-    let says = if kind == 20 { Says::Noted } else { says(kind, &mut numbers, rules)? };
-    let fits = usize::from(account) < ACCOUNTS;
-    fits.then_some((Entry { transaction, second, says }, account, whole))
-}
-
-/// What an entry of another kind than 20 says; none where a Close has an amount.
-fn says(kind: u8, numbers: &mut Numbers, rules: &Rules) -> Option<Says> {
+/// An entry of a kind that has a request; none where its event kind is not listed, or a Close has an amount.
+fn of_request(kind: u8, transaction: u32, second: u32, numbers: &mut Numbers) -> Option<Entry> {
     let event_kind = numbers.next(1) as u8;
     let amount = numbers.next(4);
-    let event = Event::of(event_kind, amount)?;
-    if event.amount() != amount && !rules.has(Fault::EntryCloseAmount) {
-        return None;
-    }
+    let event = Event::of(event_kind, amount).filter(|event| event.amount() == amount)?;
+    let request = Request { transaction, second, event };
+    let mut voted = |vote| Entry::Voted { vote, request, outcomes: numbers.next(2) as u16 };
     Some(match kind {
-        17 => Says::Voted(Vote::Accepted, event, numbers.next(2) as u16),
-        18 => Says::Voted(Vote::Rejected, event, numbers.next(2) as u16),
-        19 => Says::Voted(Vote::Held, event, numbers.next(2) as u16),
-        21 => Says::Applied(event, numbers.next(4)),
-        _ => Says::Dropped(event),
+        ACCEPTED => voted(Vote::Accepted),
+        REJECTED => voted(Vote::Rejected),
+        HELD => voted(Vote::Held),
+        APPLIED => Entry::Applied { request, balance: numbers.next(4) },
+        _ => Entry::Dropped { request },
     })
 }

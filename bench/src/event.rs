@@ -1,7 +1,6 @@
 //! The four events, their guards and effects: document 01's first table.
 
-use crate::fault::Fault;
-use crate::rules::Rules;
+use crate::limits::LIMIT;
 
 /// What an account is: new, opened or closed.
 #[derive(Clone, Copy, PartialEq, Eq, Debug)]
@@ -75,49 +74,38 @@ impl Event {
 
     /// The name that a line of the program has for it.
     pub fn name(self) -> &'static str {
-        ["open", "withdraw", "deposit", "close"][self.kind() as usize - 1]
-    }
-
-    /// Whether the guard holds in the state.
-    pub fn guard(self, state: State, rules: &Rules) -> bool {
-        let opened = state.life == Life::Opened;
-        let least = if rules.has(Fault::AmountZeroTaken) { 0 } else { 1 };
         match self {
-            Event::Open(amount) => {
-                let again = rules.has(Fault::ClosedOpensAgain) && state.life == Life::Closed;
-                let within = amount <= rules.limit() || rules.has(Fault::OpenOverLimit);
-                (state.life == Life::New || again) && within
-            }
-            Event::Withdraw(amount) => {
-                let needed = u64::from(amount) + u64::from(rules.has(Fault::WithdrawNeedsMore));
-                opened && amount >= least && u64::from(state.balance) >= needed
-            }
-            Event::Deposit(amount) => {
-                opened && amount >= least && sum(state.balance, amount, rules) <= u64::from(rules.limit())
-            }
-            Event::Close => opened && (state.balance == 0 || !rules.has(Fault::CloseNeedsEmpty)),
-        }
-    }
-
-    /// The state after the event, where its guard holds.
-    pub fn effect(self, state: State, rules: &Rules) -> State {
-        let opened = |balance| State { life: Life::Opened, balance };
-        match self {
-            Event::Open(amount) => opened(amount),
-            Event::Withdraw(amount) => opened(state.balance.wrapping_sub(amount)),
-            Event::Deposit(amount) => opened(state.balance.wrapping_add(amount)),
-            Event::Close => {
-                let left = if rules.has(Fault::CloseKeepsBalance) { state.balance } else { 0 };
-                State { life: Life::Closed, balance: left }
-            }
+            Event::Open(_) => "open",
+            Event::Withdraw(_) => "withdraw",
+            Event::Deposit(_) => "deposit",
+            Event::Close => "close",
         }
     }
 }
 
-/// The balance plus the amount, wide enough for every two numbers.
-fn sum(balance: u32, amount: u32, rules: &Rules) -> u64 {
-    if rules.has(Fault::DepositWraps) {
-        return u64::from(balance.wrapping_add(amount));
+/// Guards and effects, one row of the table each.
+pub trait EventRules: Sized {
+    /// Whether the guard of an event holds in a state.
+    fn guard(&self, event: Event, state: State) -> bool {
+        let opened = state.life == Life::Opened;
+        match event {
+            Event::Open(amount) => state.life == Life::New && amount <= LIMIT,
+            Event::Withdraw(amount) => opened && amount >= 1 && state.balance >= amount,
+            Event::Deposit(amount) => {
+                opened && amount >= 1 && u64::from(state.balance) + u64::from(amount) <= u64::from(LIMIT)
+            }
+            Event::Close => opened,
+        }
     }
-    u64::from(balance) + u64::from(amount)
+
+    /// The state after an event whose guard holds.
+    fn effect(&self, event: Event, state: State) -> State {
+        let opened = |balance| State { life: Life::Opened, balance };
+        match event {
+            Event::Open(amount) => opened(amount),
+            Event::Withdraw(amount) => opened(state.balance.wrapping_sub(amount)),
+            Event::Deposit(amount) => opened(state.balance.wrapping_add(amount)),
+            Event::Close => State { life: Life::Closed, balance: 0 },
+        }
+    }
 }

@@ -5,12 +5,9 @@
 //! then the messages. The run is made twice, with other bytes in the buffer, and the text has for each: the length
 //! returned, every place for counts, whether all that was not lent is as it was, and every byte of the entry buffer.
 
-use crate::fault::Fault;
-use crate::message::Numbers;
-use crate::probe::hex;
+use crate::bytes::{hex, Numbers};
 use crate::register::Register;
-use crate::rules::Rules;
-use crate::run::{run_into, Ran};
+use crate::run::{Ran, RunRules};
 
 /// The most room that is lent; a larger number stands for it.
 pub const MOST_ROOM: usize = 1 << 19;
@@ -35,17 +32,21 @@ pub fn asked(input: &[u8]) -> (usize, usize, &[u8]) {
 }
 
 /// The text of a stream by the model.
-pub fn text(input: &[u8], rules: Rules) -> String {
-    let mut register = Register::fresh(rules);
-    told(input, |messages, entries, counts| {
-        if !rules.has(Fault::RegisterKept) {
-            register = Register::fresh(rules);
-        }
-        let Ran { met, refused, consumed, written } = run_into(messages, entries, &mut register, &rules);
-        let places = if rules.has(Fault::FourPlacesOrNone) && counts.len() < 4 { 0 } else { counts.len() };
-        counts[..places].iter_mut().zip([met, refused, consumed, written]).for_each(|(place, count)| *place = count);
-        written
-    })
+pub fn text(input: &[u8], rules: &impl RunRules) -> String {
+    told(input, |messages, entries, counts| run(messages, entries, counts, &mut Register::fresh(), rules))
+}
+
+/// The exported call on a register: as many counts are stored as there are places.
+pub fn run(
+    messages: &[u8],
+    entries: &mut [u8],
+    counts: &mut [u64],
+    register: &mut Register,
+    rules: &impl RunRules,
+) -> u64 {
+    let Ran { met, refused, consumed, written } = rules.run(messages, entries, register);
+    counts.iter_mut().zip([met, refused, consumed, written]).for_each(|(place, count)| *place = count);
+    written
 }
 
 /// The text of a stream by a run that gets messages, the entry buffer and the places for counts.

@@ -1,14 +1,13 @@
 //! An account as it is stored, in order or not: counts, and sixteen places.
 
-use crate::event::{Event, State};
-use crate::rules::PLACES;
+use crate::event::{Event, Life, State};
+use crate::limits::PLACES;
+use crate::request::Request;
 
 /// What a place holds; a held request has no decision, its mark is `false`.
 #[derive(Clone, Copy, PartialEq, Eq, Debug)]
 pub struct Place {
-    pub transaction: u32,
-    pub second: u32,
-    pub event: Event,
+    pub request: Request,
     pub committed: bool,
 }
 
@@ -23,7 +22,8 @@ pub struct Image {
 
 impl Place {
     /// The one blank.
-    pub const BLANK: Place = Place { transaction: 0, second: 0, event: Event::Open(0), committed: false };
+    pub const BLANK: Place =
+        Place { request: Request { transaction: 0, second: 0, event: Event::Open(0) }, committed: false };
 }
 
 impl Image {
@@ -63,7 +63,6 @@ impl Image {
 
     /// Sets the life: 0 new, 1 opened, 2 closed.
     fn set_life(&mut self, value: u32) -> bool {
-        use crate::event::Life;
         let Some(life) = [Life::New, Life::Opened, Life::Closed].get(value as usize).copied() else {
             return false;
         };
@@ -75,11 +74,12 @@ impl Image {
 impl Place {
     /// Sets one field of a place: 4 transaction, 5 second, 6 event kind, 7 amount, 8 decision.
     fn disturb(&mut self, field: u8, value: u32) -> bool {
+        let event = self.request.event;
         match field {
-            4 => set(&mut self.transaction, value),
-            5 => set(&mut self.second, value),
-            6 => self.set_event(u8::try_from(value).unwrap_or(0), self.event.amount()),
-            7 if self.event != Event::Close => self.set_event(self.event.kind(), value),
+            4 => set(&mut self.request.transaction, value),
+            5 => set(&mut self.request.second, value),
+            6 => self.set_event(u8::try_from(value).unwrap_or(0), event.amount()),
+            7 if event != Event::Close => self.set_event(event.kind(), value),
             8 if value < 2 => set(&mut self.committed, value == 1),
             _ => false,
         }
@@ -87,7 +87,7 @@ impl Place {
 
     /// Puts the event of a kind here; false where there is none.
     fn set_event(&mut self, kind: u8, amount: u32) -> bool {
-        Event::of(kind, amount).map(|event| self.event = event).is_some()
+        Event::of(kind, amount).map(|event| self.request.event = event).is_some()
     }
 }
 

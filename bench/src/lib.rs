@@ -3,36 +3,49 @@
 //! It is written from the document. Its account keeps the list of its outcomes
 //! and halves or doubles it, so it shares no walk and no array of places with
 //! the proved register; the two meet in bytes and text alone.
+//!
+//! The files stand here in their order: each imports from those above it and
+//! from no other, and so do the files of a folder, in the order of its `mod.rs`
+//! (`tests/files.rs` checks it).
 
-// The model: document 01, and its page for the probe.
-pub mod account;
-pub mod entry;
+// The model: document 01, and the probe's page. A reader can go along them with
+// the document. `rules` says how a version of the model does otherwise.
+pub mod limits;
+pub mod bytes;
 pub mod event;
-pub mod exported;
-pub mod fault;
-pub mod image;
+pub mod request;
+pub mod outcomes;
 pub mod message;
+pub mod entry;
+pub mod image;
+pub mod account;
 pub mod order;
-pub mod probe;
-pub mod program;
 pub mod register;
-pub mod rules;
 pub mod run;
+pub mod program;
+pub mod probe;
+pub mod exported;
+pub mod rules;
+
+// The wrong versions of it.
+pub mod fault;
 
 // The comparison.
-pub mod compare;
-pub mod document;
 pub mod random;
-pub mod reached;
-pub mod readable;
-pub mod report;
-pub mod shrink;
-pub mod streams;
 pub mod subject;
+pub mod streams;
+pub mod document;
+pub mod readable;
+pub mod shrink;
 pub mod tally;
+pub mod reached;
+pub mod compare;
+pub mod report;
 
 // The benchmark.
-pub mod contention;
-pub mod measure;
+pub mod limit;
 pub mod proved;
+pub mod measure;
 pub mod workload;
+pub mod contention;
+pub mod plot;

@@ -1,8 +1,9 @@
 //! Timing: the same stream through each version in turn, round after round.
 
+use crate::limit;
 use crate::proved;
-use crate::rules::Rules;
-use crate::run::{self, room, Run};
+use crate::rules::{Document, Judged, Places};
+use crate::run::{self, room, Ran, Run};
 use std::hint::black_box;
 use std::time::Instant;
 
@@ -15,6 +16,8 @@ pub enum Runner {
     Judged,
     /// The same as the first with one event in progress at a time, the two-phase-locking way.
     OneAtATime,
+    /// The one made by hand for speed, with every check.
+    Limit,
     /// The proved register.
     Proved,
 }
@@ -22,7 +25,7 @@ pub enum Runner {
 impl Runner {
     /// The versions at hand: the proved one where it is linked.
     pub fn all() -> Vec<Runner> {
-        let mut runners = vec![Runner::Independent, Runner::Judged, Runner::OneAtATime];
+        let mut runners = vec![Runner::Independent, Runner::Judged, Runner::OneAtATime, Runner::Limit];
         if proved::LINKED {
             runners.push(Runner::Proved);
         }
@@ -35,6 +38,7 @@ impl Runner {
             Runner::Independent => "independent",
             Runner::Judged => "order judged",
             Runner::OneAtATime => "one at a time",
+            Runner::Limit => "limit",
             Runner::Proved => "proved",
         }
     }
@@ -42,9 +46,13 @@ impl Runner {
     /// Runs the messages; `room` is for those that write where they are told.
     pub fn run(self, messages: &[u8], room: &mut [u8]) -> Run {
         match self {
-            Runner::Independent => run::run(messages, Rules::DOCUMENT),
-            Runner::Judged => run::run(messages, Rules { judged: true, ..Rules::DOCUMENT }),
-            Runner::OneAtATime => run::run(messages, Rules { places: 1, ..Rules::DOCUMENT }),
+            Runner::Independent => run::run(messages, &Document),
+            Runner::Judged => run::run(messages, &Judged),
+            Runner::OneAtATime => run::run(messages, &Places(1)),
+            Runner::Limit => {
+                let Ran { met, refused, written, .. } = limit::run(messages, room);
+                Run { met, refused, entries: room[..written as usize].to_vec() }
+            }
             Runner::Proved => proved::run(messages, room),
         }
     }
@@ -69,9 +77,14 @@ pub fn times(messages: &[u8], runners: &[Runner], rounds: usize) -> Vec<f64> {
 /// Whether the versions under document 01's rules agree on the stream, and no version refuses any of it.
 pub fn agree(messages: &[u8], runners: &[Runner]) -> bool {
     let mut room = room(messages);
-    let right = run::run(messages, Rules::DOCUMENT);
-    runners.iter().all(|runner| {
-        let run = runner.run(messages, &mut room);
-        run.met == right.met && run.refused == 0 && (run.entries == right.entries || *runner == Runner::OneAtATime)
-    })
+    let taken = |runner: &Runner| runner.run(messages, &mut room).refused == 0;
+    runners.iter().all(taken) && agree_on_entries(messages, runners)
+}
+
+/// Whether the versions under document 01's rules agree on the stream: messages met and refused, and entries.
+pub fn agree_on_entries(messages: &[u8], runners: &[Runner]) -> bool {
+    let mut room = room(messages);
+    let right = run::run(messages, &Document);
+    let mut others = runners.iter().filter(|runner| **runner != Runner::OneAtATime);
+    others.all(|runner| runner.run(messages, &mut room) == right)
 }

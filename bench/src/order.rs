@@ -1,9 +1,9 @@
 //! "In order": each clause of document 01's sentence, told apart.
 
-use crate::event::{Life, State};
-use crate::fault::Fault;
+use crate::event::{EventRules, Life};
 use crate::image::{Image, Place};
-use crate::rules::{Rules, LIMIT, PLACES};
+use crate::limits::{LIMIT, PLACES};
+use crate::outcomes::{Outcomes, Vote};
 
 /// One clause of "an account is in order if".
 #[derive(Clone, Copy, PartialEq, Eq, Debug)]
@@ -44,7 +44,7 @@ impl Clause {
             Clause::TransactionsDiffer => "transactions in progress and held all differ",
             Clause::BlanksBlank => "blanks are blank",
             Clause::BalanceOfUnopened => "a new or closed account has balance 0",
-            Clause::GuardsTrue => "each guard is true in every outcome of those before it",
+            Clause::GuardsTrue => "each event's guard holds in all outcomes of the events before it",
             Clause::OldestUndecided => "the oldest event is undecided",
             Clause::OldestHeldStays => "the oldest held request would stay held",
             Clause::HeldHasNoDecision => "a held request has no decision",
@@ -52,14 +52,14 @@ impl Clause {
     }
 
     /// Whether the stored account keeps this clause; counts above 8 are read as 8.
-    pub fn kept(self, image: &Image, rules: &Rules) -> bool {
+    pub fn kept(self, image: &Image, rules: &impl EventRules) -> bool {
         match self {
             Clause::InProgressWithin => image.in_progress as usize <= PLACES,
             Clause::HeldWithin => image.held as usize <= PLACES,
             Clause::BalanceWithin => image.state.balance <= LIMIT,
             Clause::TransactionsDiffer => {
                 let used = image.progress_places().iter().chain(image.held_places());
-                let mut transactions: Vec<u32> = used.map(|place| place.transaction).collect();
+                let mut transactions: Vec<u32> = used.map(|place| place.request.transaction).collect();
                 transactions.sort_unstable();
                 transactions.windows(2).all(|pair| pair[0] != pair[1])
             }
@@ -73,44 +73,45 @@ impl Clause {
     }
 }
 
-/// Whether the stored account is in order.
-pub fn in_order(image: &Image, rules: &Rules) -> bool {
-    let checked = |clause: &&Clause| rules.fault != Some(Fault::Unchecked(**clause));
-    Clause::ALL.iter().filter(checked).all(|clause| clause.kept(image, rules))
+/// The sentence as a whole.
+pub trait OrderRules: EventRules {
+    /// Whether the stored account is in order.
+    fn in_order(&self, image: &Image) -> bool {
+        Clause::ALL.iter().all(|clause| clause.kept(image, self))
+    }
 }
 
 /// The clauses that the stored account breaks.
-pub fn broken(image: &Image) -> Vec<Clause> {
-    Clause::ALL.into_iter().filter(|clause| !clause.kept(image, &Rules::DOCUMENT)).collect()
+pub fn broken(image: &Image, rules: &impl EventRules) -> Vec<Clause> {
+    Clause::ALL.into_iter().filter(|clause| !clause.kept(image, rules)).collect()
 }
 
-/// The states in every outcome of the events in progress; none from the first guard that fails.
-fn outcomes(image: &Image, rules: &Rules) -> Option<Vec<State>> {
-    let mut states = vec![image.state];
+/// The outcomes of the events in progress; none from the first guard that fails in one of them.
+fn outcomes(image: &Image, rules: &impl EventRules) -> Option<Outcomes> {
+    let mut outcomes = Outcomes::of(image.state);
     for place in image.progress_places() {
-        if !states.iter().all(|state| place.event.guard(*state, rules)) {
+        let event = place.request.event;
+        if outcomes.vote(|state| rules.guard(event, state)) != Vote::Accepted {
             return None;
         }
-        let after: Vec<State> = states.iter().map(|state| place.event.effect(*state, rules)).collect();
         if place.committed {
-            states.clear();
+            outcomes.apply(|state| rules.effect(event, state));
+        } else {
+            outcomes.double(|state| rules.effect(event, state));
         }
-        states.extend(after);
     }
-    Some(states)
+    Some(outcomes)
 }
 
-/// Whether the oldest held request, if any, would stay held. Where a guard before it
-/// fails this cannot be said, and is left to that clause.
-fn stays(image: &Image, rules: &Rules) -> bool {
+/// Whether the oldest of the held requests is one that stays held, or nothing is held. Where a guard fails before it,
+/// this cannot be said and is left to that clause.
+fn stays(image: &Image, rules: &impl EventRules) -> bool {
     let Some(oldest) = image.held_places().first() else {
         return true;
     };
     if image.in_progress as usize >= PLACES {
         return true;
     }
-    outcomes(image, rules).is_none_or(|states| {
-        let yes = states.iter().filter(|state| oldest.event.guard(**state, rules)).count();
-        0 < yes && yes < states.len()
-    })
+    let held = |outcomes: Outcomes| outcomes.vote(|state| rules.guard(oldest.request.event, state)) == Vote::Held;
+    outcomes(image, rules).is_none_or(held)
 }

@@ -1,20 +1,19 @@
 //! The program: messages in, lines out.
 
-use crate::fault::Fault;
+use crate::limits::{LONGEST, ROOM};
 use crate::register::Register;
-use crate::rules::{Rules, LONGEST, ROOM};
-use crate::run::{pass, Ran};
+use crate::run::{Ran, RunRules};
 
 /// The whole output of the program on an input.
-pub fn text(input: &[u8], rules: Rules) -> String {
-    let longest = LONGEST - usize::from(rules.has(Fault::TooLongEarly));
+pub fn text(input: &[u8], rules: &impl RunRules) -> String {
     let mut text = String::from("register 1\n");
-    if input.len() > longest {
+    if input.len() > LONGEST {
         return text + "too long\n";
     }
-    let mut register = Register::fresh(rules);
-    let Ran { met, refused, .. } = pass(input, &rules, |rest| {
-        let taken = register.take(rest, ROOM).inspect_err(|number| text += &format!("refused {number}\n"))?;
+    let mut register = Register::fresh();
+    let Ran { met, refused, .. } = rules.pass(input, |rest| {
+        let taken = rules.take(&mut register, rest, ROOM);
+        let taken = taken.inspect_err(|number| text += &format!("refused {number}\n"))?;
         for entry in &taken.entries {
             text += &entry.line(taken.account);
             text.push('\n');

@@ -1,11 +1,10 @@
 //! What the streams of a run should have reached.
 
+use crate::entry;
 use crate::order::Clause;
 use crate::subject::Target;
 use crate::tally::Tally;
 
-/// Entries, as every target's streams should reach them.
-const ENTRIES: [&str; 6] = ["accepted", "rejected", "held", "noted", "applied", "dropped"];
 /// Further lines of the program and of the probe, and further lines of the probe.
 const LINES: [&str; 3] = ["refused", "end", "too"];
 const PROBE_LINES: [&str; 10] =
@@ -54,7 +53,7 @@ impl Tally {
             Target::Probe => &[1, 2, 3, 4, 5, 6, 7, 8, 9, 10, 11, 12],
             Target::Exported => &[1, 2, 3, 4, 6, 7, 8, 9, 10, 11],
         };
-        let mut checks: Vec<(String, bool)> = self.seen_lines(&ENTRIES).collect();
+        let mut checks: Vec<(String, bool)> = self.seen_lines(&entries()).collect();
         checks.extend(refusals.iter().map(|n| (format!("refusal {n}"), self.refusals.contains_key(n))));
         let counts = (0..=7).map(|u| 1 << u).chain([0]);
         checks.extend(counts.map(|n| (format!("{n} outcomes"), self.outcomes.contains_key(&n))));
@@ -69,10 +68,15 @@ impl Tally {
     }
 }
 
+/// The names of the entries, which every target's streams should reach.
+fn entries() -> [&'static str; entry::KINDS.len()] {
+    entry::KINDS.map(|kind| kind.1)
+}
+
 /// Answers to the frames from 64 on: both orders, runs taken whole and in part, every line of text, every refusal of a
 /// step, the longest step.
 fn later() -> Vec<String> {
-    let lines = ENTRIES.iter().map(|entry| format!("67 {entry}"));
+    let lines = entries().into_iter().map(|entry| format!("67 {entry}"));
     let refusals = (5..=11).map(|number| format!("68 refused {number}"));
     let runs = ["nothing", "whole", "refused", "in part"].map(|run| format!("65 ran {run}"));
     let others = ["64 order yes", "64 order no", "67 none", "68 taken 1", "68 taken 17"].map(str::to_string);

@@ -1,9 +1,9 @@
 //! Streams in readable form, piece by piece: a piece is a message or a frame.
 
+use crate::bytes::{hex, Numbers};
 use crate::exported::{asked, HEAD};
-use crate::message::{self, Message};
-use crate::probe::{hex, split};
-use crate::rules::Rules;
+use crate::message::{self, Head, Message};
+use crate::probe::split;
 use crate::subject::Target;
 
 /// The messages or frames of a stream, and as the last piece what is neither; a run's head is its first piece.
@@ -40,15 +40,14 @@ pub fn line(target: Target, piece: &[u8]) -> String {
 
 /// A message in words, or its bytes where it is none.
 fn message_line(bytes: &[u8]) -> String {
-    let Some(whole) = message::length(*bytes.first().unwrap_or(&0)).filter(|whole| *whole <= bytes.len()) else {
+    let kind = message::kind(*bytes.first().unwrap_or(&0)).filter(|(_, whole)| *whole <= bytes.len());
+    let Some((name, whole)) = kind else {
         return format!("bytes {}", shortened(bytes));
     };
-    let mut numbers = message::Numbers { bytes: &bytes[1..] };
-    let names = ["open", "withdraw", "deposit", "close", "commit", "abort"];
-    let name = names[usize::from(bytes[0]) - 1];
+    let mut numbers = Numbers { bytes: &bytes[1..] };
     let (transaction, account, second) = (numbers.next(4), numbers.next(2), numbers.next(4));
     let mut line = format!("{name} transaction {transaction} account {account} second {second}");
-    if whole == 15 {
+    if whole > message::HEAD {
         line += &format!(" amount {}", numbers.next(4));
     }
     match &bytes[whole..] {
@@ -59,7 +58,7 @@ fn message_line(bytes: &[u8]) -> String {
 
 /// A frame in words.
 fn frame_line(code: u8, payload: &[u8]) -> String {
-    let mut numbers = message::Numbers { bytes: payload };
+    let mut numbers = Numbers { bytes: payload };
     match (code, payload.len()) {
         (1, 2..) => format!("call, room {}: {}", numbers.next(2), message_line(&payload[2..])),
         (2, 6) => format!("outcome of account {}, number {}", numbers.next(2), numbers.next(4)),
@@ -77,24 +76,28 @@ fn frame_line(code: u8, payload: &[u8]) -> String {
 }
 
 /// Frame 4 in words.
-fn write_line(numbers: &mut message::Numbers) -> String {
+fn write_line(numbers: &mut Numbers) -> String {
     let kind = numbers.next(1) as u8;
-    let (transaction, account) = (numbers.next(4), numbers.next(2) as u16);
-    let (second, amount) = (numbers.next(4), numbers.next(4));
-    let message = Message { kind, transaction, account, second, amount };
-    format!("write message, room {}: {}", numbers.next(2), message_line(&message.bytes(&Rules::DOCUMENT)))
+    let head = Head { transaction: numbers.next(4), account: numbers.next(2) as u16, second: numbers.next(4) };
+    let line = kind_line(kind, head, numbers.next(4));
+    format!("write message, room {}: {line}", numbers.next(2))
 }
 
 /// Frame 68 in words.
-fn step_line(numbers: &mut message::Numbers) -> String {
+fn step_line(numbers: &mut Numbers) -> String {
     let (account, kind) = (numbers.next(2) as u16, numbers.next(1) as u8);
-    let (transaction, second, amount) = (numbers.next(4), numbers.next(4), numbers.next(4));
-    let message = Message { kind, transaction, account, second, amount };
-    format!("single step: {}", message_line(&message.bytes(&Rules::DOCUMENT)))
+    let head = Head { transaction: numbers.next(4), account, second: numbers.next(4) };
+    format!("single step: {}", kind_line(kind, head, numbers.next(4)))
+}
+
+/// A message of a kind in words, or that there is none.
+fn kind_line(kind: u8, head: Head, amount: u32) -> String {
+    let message = Message::of(kind, head, amount);
+    message.map_or(format!("no message, kind {kind}"), |message| message_line(&message.bytes()))
 }
 
 /// Frame 5 in words.
-fn disturb_line(numbers: &mut message::Numbers) -> String {
+fn disturb_line(numbers: &mut Numbers) -> String {
     let names = ["life", "balance", "in progress", "held", "transaction", "second", "event kind", "amount", "decision"];
     let (account, field, place) = (numbers.next(2), numbers.next(1) as usize, numbers.next(1));
     let name = names.get(field).copied().unwrap_or("no field");

@@ -1,7 +1,7 @@
 //! What a comparison prints.
 
+use crate::bytes::hex;
 use crate::compare::{Difference, Found};
-use crate::probe::hex;
 use crate::readable::{line, pieces};
 use crate::tally::Tally;
 use std::collections::BTreeMap;

@@ -1,49 +1,64 @@
-//! The limits of document 01, and what a run of the model may vary.
+//! The rules as a whole, and who keeps them: document 01 as it stands, and the variations that the benchmark measures.
+//!
+//! Each file of the model has a trait whose methods are document 01's sentences on its subject. A version of the model
+//! is a type with these traits; what it does not say otherwise it does as the document says.
 
-use crate::fault::Fault;
+use crate::account::AccountRules;
+use crate::entry::EntryRules;
+use crate::event::EventRules;
+use crate::message::MessageRules;
+use crate::order::OrderRules;
+use crate::probe::{self, ProbeRules};
+use crate::register::RegisterRules;
+use crate::run::RunRules;
+use crate::{exported, program};
 
-/// Events in progress and requests held that an account has room for.
-pub const PLACES: usize = 8;
-/// The highest balance.
-pub const LIMIT: u32 = 1_000_000;
-/// Accounts of a register.
-pub const ACCOUNTS: usize = 16;
-/// The longest call's entries: the room that every call asks for.
-pub const ROOM: usize = 315;
-/// The longest input of the program and of the probe.
-pub const LONGEST: usize = 65_536;
+/// What each target prints on an input.
+pub trait Rules: ProbeRules + Copy {
+    fn program_text(&self, input: &[u8]) -> String {
+        program::text(input, self)
+    }
 
-/// How the model runs: document 01's rules, or a variation of them.
-#[derive(Clone, Copy, PartialEq, Eq, Debug)]
-pub struct Rules {
-    /// Events in progress at once: 8, or 1 for the two-phase-locking way.
-    pub places: usize,
-    /// Whether each call judges anew that the account is in order.
-    pub judged: bool,
-    /// The wrong version that is run, if any.
-    pub fault: Option<Fault>,
+    fn probe_text(&self, input: &[u8]) -> String {
+        probe::text(input, self)
+    }
+
+    fn exported_text(&self, input: &[u8]) -> String {
+        exported::text(input, self)
+    }
 }
 
-impl Rules {
-    /// Document 01 as it stands.
-    pub const DOCUMENT: Rules = Rules { places: PLACES, judged: false, fault: None };
+/// Gives a version the traits in which it does as document 01 says.
+macro_rules! as_told {
+    ($version:ident: $($rules:ident)*) => { $(impl $rules for $version {})* };
+}
 
-    /// Document 01 with one fault in it.
-    pub fn wrong(fault: Fault) -> Rules {
-        Rules { fault: Some(fault), ..Rules::DOCUMENT }
+/// Document 01 as it stands.
+#[derive(Clone, Copy, PartialEq, Eq, Debug)]
+pub struct Document;
+
+as_told!(Document: EventRules MessageRules EntryRules AccountRules OrderRules RegisterRules RunRules ProbeRules Rules);
+
+/// Document 01, and each call judges anew that its account is in order.
+#[derive(Clone, Copy, PartialEq, Eq, Debug)]
+pub struct Judged;
+
+as_told!(Judged: EventRules MessageRules EntryRules AccountRules OrderRules RunRules ProbeRules Rules);
+
+impl RegisterRules for Judged {
+    fn judged(&self) -> bool {
+        true
     }
+}
 
-    /// Whether this run has the fault.
-    pub fn has(&self, fault: Fault) -> bool {
-        self.fault == Some(fault)
-    }
+/// Document 01 with another number of events in progress at once: 1 is the two-phase-locking way.
+#[derive(Clone, Copy, PartialEq, Eq, Debug)]
+pub struct Places(pub usize);
 
-    /// The highest balance that guards allow.
-    pub fn limit(&self) -> u32 {
-        if self.has(Fault::LimitOneShort) {
-            LIMIT - 1
-        } else {
-            LIMIT
-        }
+as_told!(Places: EventRules MessageRules EntryRules OrderRules RegisterRules RunRules ProbeRules Rules);
+
+impl AccountRules for Places {
+    fn places(&self) -> usize {
+        self.0
     }
 }

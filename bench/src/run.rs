@@ -1,9 +1,8 @@
 //! A run of messages: one after the other to a fresh register, their entries one after the other in a buffer.
 
-use crate::fault::Fault;
+use crate::limits::ROOM;
 use crate::message;
-use crate::register::Register;
-use crate::rules::{Rules, ROOM};
+use crate::register::{Register, RegisterRules};
 
 /// What a run comes to: messages met, messages refused, bytes of messages passed, bytes of entries written.
 #[derive(Clone, Copy, PartialEq, Eq, Debug, Default)]
@@ -14,54 +13,49 @@ pub struct Ran {
     pub written: u64,
 }
 
-/// Sends the messages one after the other; a refusal 1 or 2 stops, after others the message is skipped by its length.
-///
-/// `send` gets the rest of the messages and gives the consumed length or the refusal's number.
-pub fn pass(messages: &[u8], rules: &Rules, mut send: impl FnMut(&[u8]) -> Result<usize, u8>) -> Ran {
+/// The sentences on what follows a refusal, and runs as a whole.
+pub trait RunRules: RegisterRules {
+    /// The length by which a refused message of a kind is skipped, none where reading stops at it.
+    fn skipped(&self, kind: u8, number: u8) -> Option<usize> {
+        message::length(kind).filter(|_| number > 2)
+    }
+
+    /// Sends the messages one after the other. `send` gets the rest of the messages and gives the consumed length or
+    /// the refusal's number.
+    fn pass(&self, messages: &[u8], send: impl FnMut(&[u8]) -> Result<usize, u8>) -> Ran {
+        pass(messages, send, self)
+    }
+
+    /// Runs messages through a register; each call gets what is left of the entry buffer.
+    fn run(&self, messages: &[u8], entries: &mut [u8], register: &mut Register) -> Ran {
+        run_into(messages, entries, register, self)
+    }
+}
+
+/// Sends the messages one after the other; a refused one counts as met too.
+pub fn pass(messages: &[u8], mut send: impl FnMut(&[u8]) -> Result<usize, u8>, rules: &impl RunRules) -> Ran {
     let mut ran = Ran::default();
     let mut at = 0;
     while at < messages.len() {
         ran.met += 1;
-        let sent = send(&messages[at..]);
-        let passed = match sent {
-            Ok(consumed) => Some(consumed),
-            Err(number) => {
-                ran.refused += 1;
-                ran.met -= u64::from(rules.has(Fault::RefusedNotMet));
-                skipped(messages[at], number, rules)
-            }
-        };
-        let Some(passed) = passed else {
-            if rules.has(Fault::StopNotCounted) {
-                (ran.met, ran.refused) = (ran.met - 1, ran.refused - 1);
-            }
-            break;
-        };
+        let passed = send(&messages[at..]).or_else(|number| {
+            ran.refused += 1;
+            rules.skipped(messages[at], number).ok_or(number)
+        });
+        let Ok(passed) = passed else { break };
         at += passed;
-        let counted = sent.is_ok() || !rules.has(Fault::SkippedNotPassed);
-        ran.consumed += if counted { passed as u64 } else { 0 };
     }
-    ran
+    Ran { consumed: at as u64, ..ran }
 }
 
-/// The length of a refused message that is skipped, none where the run stops at it.
-fn skipped(kind: u8, number: u8, rules: &Rules) -> Option<usize> {
-    let stops = number <= 2 || number == 4 && rules.has(Fault::StopsWithoutRoom);
-    let length = message::length(kind).filter(|_| !stops);
-    length.map(|length| if rules.has(Fault::SkipsFifteen) { 15 } else { length })
-}
-
-/// Runs messages through a register; each call gets what is left of the entry buffer.
-pub fn run_into(messages: &[u8], entries: &mut [u8], register: &mut Register, rules: &Rules) -> Ran {
+/// Runs messages through a register.
+pub fn run_into(messages: &[u8], entries: &mut [u8], register: &mut Register, rules: &impl RunRules) -> Ran {
     let mut at = 0;
-    let ran = pass(messages, rules, |rest| {
-        let (consumed, written) = register.call(rest, &mut entries[at..])?;
+    let ran = rules.pass(messages, |rest| {
+        let (consumed, written) = rules.call(register, rest, &mut entries[at..])?;
         at += written;
         Ok(consumed)
     });
-    if let Some(next) = entries.get_mut(at).filter(|_| rules.has(Fault::NextByteTouched)) {
-        *next = 0;
-    }
     Ran { written: at as u64, ..ran }
 }
 
@@ -74,9 +68,9 @@ pub struct Run {
 }
 
 /// Runs messages through a fresh register, with room enough.
-pub fn run(messages: &[u8], rules: Rules) -> Run {
+pub fn run(messages: &[u8], rules: &impl RunRules) -> Run {
     let mut entries = room(messages);
-    let Ran { met, refused, written, .. } = run_into(messages, &mut entries, &mut Register::fresh(rules), &rules);
+    let Ran { met, refused, written, .. } = rules.run(messages, &mut entries, &mut Register::fresh());
     entries.truncate(written as usize);
     Run { met, refused, entries }
 }

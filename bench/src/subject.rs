@@ -1,7 +1,6 @@
 //! What is compared with the model: the built programs, or a version of the model itself.
 
 use crate::rules::Rules;
-use crate::{exported, probe, program};
 use std::io::{Read, Write};
 use std::process::{Child, Command, ExitStatus, Stdio};
 use std::sync::mpsc::channel;
@@ -29,11 +28,11 @@ impl Target {
     }
 
     /// The model's output on an input.
-    pub fn text(self, input: &[u8], rules: Rules) -> String {
+    pub fn text(self, input: &[u8], rules: &impl Rules) -> String {
         match self {
-            Target::Program => program::text(input, rules),
-            Target::Probe => probe::text(input, rules),
-            Target::Exported => exported::text(input, rules),
+            Target::Program => rules.program_text(input),
+            Target::Probe => rules.probe_text(input),
+            Target::Exported => rules.exported_text(input),
         }
     }
 }
@@ -52,16 +51,16 @@ pub trait Subject {
     }
 }
 
-/// The model under other rules than the document's, in this process.
-pub struct Version(pub Rules);
+/// A version of the model, in this process.
+pub struct Version<R>(pub R);
 
-impl Subject for Version {
+impl<R: Rules> Subject for Version<R> {
     fn has(&self, _: Target) -> bool {
         true
     }
 
     fn answer(&self, target: Target, input: &[u8]) -> Result<Vec<u8>, String> {
-        Ok(target.text(input, self.0).into_bytes())
+        Ok(target.text(input, &self.0).into_bytes())
     }
 }
 

@@ -1,13 +1,14 @@
 //! What the streams of a run reached, counted from the model's text.
 
-use crate::entry::{self, Entry, Says};
+use crate::entry::{Entry, EntryRules};
 use crate::exported::asked;
 use crate::image::Image;
+use crate::limits::{LIMIT, LONGEST, ROOM};
 use crate::order::broken;
-use crate::probe::{answer, split};
-use crate::register::Register;
-use crate::rules::{Rules, LIMIT, LONGEST, ROOM};
-use crate::run::pass;
+use crate::probe::{split, ProbeRules};
+use crate::register::{Register, RegisterRules};
+use crate::rules::Document;
+use crate::run::RunRules;
 use crate::subject::Target;
 use std::collections::BTreeMap;
 
@@ -60,7 +61,7 @@ impl Tally {
 
     /// Counts the lines of frames, each with the register that its frame left.
     fn add_frames(&mut self, input: &[u8], text: &str) {
-        let mut register = Register::fresh(Rules::DOCUMENT);
+        let mut register = Register::fresh();
         let mut rest = if input.len() > LONGEST { &[] } else { input };
         for line in text.lines().skip(1) {
             let Some((code, payload, after)) = split(rest) else {
@@ -68,7 +69,7 @@ impl Tally {
                 continue;
             };
             rest = after;
-            answer(&mut register, code, payload, &Rules::DOCUMENT);
+            Document.frame(&mut register, code, payload);
             match code {
                 64 | 65 | 67 | 68 => self.add_later(code, line),
                 _ => self.add_line(Target::Probe, line),
@@ -96,7 +97,7 @@ impl Tally {
 
     /// Counts a refused call on an account that breaks one clause and no other.
     fn add_alone(&mut self, image: &Image) {
-        if let [clause] = broken(image)[..] {
+        if let [clause] = broken(image, &Document)[..] {
             count(&mut self.alone, clause.says());
         }
     }
@@ -106,10 +107,10 @@ impl Tally {
         let (room, places, messages) = asked(input);
         count(&mut self.runs, format!("{places} places"));
         count(&mut self.runs, room_name(room).to_string());
-        let mut register = Register::fresh(Rules::DOCUMENT);
+        let mut register = Register::fresh();
         let (mut left, mut short) = (room, false);
-        pass(messages, &Rules::DOCUMENT, |rest| {
-            let taken = register.take(rest, left).inspect_err(|number| {
+        Document.pass(messages, |rest| {
+            let taken = Document.take(&mut register, rest, left).inspect_err(|number| {
                 count(&mut self.refusals, u32::from(*number));
                 short |= *number == 4;
             })?;
@@ -138,7 +139,7 @@ impl Tally {
         let bytes: Vec<u8> = hex.as_bytes().chunks(2).map(byte).collect();
         self.longest += u64::from(bytes.len() == ROOM);
         let mut rest = bytes.as_slice();
-        while let Some((entry, _, length)) = entry::read(rest, &Rules::DOCUMENT) {
+        while let Some((entry, _, length)) = Document.read_entry(rest) {
             self.entry(&entry);
             rest = &rest[length..];
         }
@@ -149,10 +150,10 @@ impl Tally {
         let line = entry.line(0);
         let name = line.split(' ').next().unwrap_or_default();
         count(&mut self.lines, name.to_string());
-        match entry.says {
-            Says::Voted(_, _, outcomes) => count(&mut self.outcomes, u32::from(outcomes)),
-            Says::Applied(event, balance) => self.applied(event.name(), balance),
-            _ => {}
+        match *entry {
+            Entry::Voted { outcomes, .. } => count(&mut self.outcomes, u32::from(outcomes)),
+            Entry::Applied { request, balance } => self.applied(request.event.name(), balance),
+            Entry::Noted { .. } | Entry::Dropped { .. } => {}
         }
     }
 }

@@ -1,7 +1,8 @@
 //! Streams for the benchmark: a steady number in progress, and a growing number undecided.
 
-use crate::message::{Message, ABORT, COMMIT};
-use crate::rules::{Rules, LIMIT};
+use crate::event::Event;
+use crate::limits::LIMIT;
+use crate::message::{Head, Message};
 
 /// The numbers in progress that the benchmark looks at.
 pub const IN_PROGRESS: [u32; 5] = [0, 2, 4, 6, 8];
@@ -13,10 +14,10 @@ pub const IN_PROGRESS: [u32; 5] = [0, 2, 4, 6, 8];
 pub fn steady(in_progress: u32, pairs: u32) -> Vec<u8> {
     let mut bytes = opened();
     for number in 0..in_progress + pairs {
-        let kind = if number % 2 == 0 { 2 } else { 3 };
-        bytes.extend(request(kind, number, 1));
+        let event = if number % 2 == 0 { Event::Withdraw(1) } else { Event::Deposit(1) };
+        bytes.extend(request(event, number));
         if number >= in_progress {
-            bytes.extend(decision(COMMIT, number - in_progress));
+            bytes.extend(commit(number - in_progress));
         }
     }
     bytes
@@ -24,41 +25,46 @@ pub fn steady(in_progress: u32, pairs: u32) -> Vec<u8> {
 
 /// So many undecided withdrawals, then so many requests that every outcome rejects.
 pub fn undecided(events: u32, requests: u32) -> Vec<u8> {
-    let mut bytes = opened();
-    for number in 0..events {
-        bytes.extend(request(2, number, 1));
-    }
+    let mut bytes = withdrawals(events);
     for number in events..events + requests {
-        bytes.extend(request(2, number, LIMIT));
+        bytes.extend(request(Event::Withdraw(LIMIT), number));
     }
     bytes
 }
 
 /// So many undecided withdrawals, then so many pairs of a request that every outcome accepts and its abort.
 pub fn accepted(events: u32, pairs: u32) -> Vec<u8> {
-    let mut bytes = opened();
-    for number in 0..events {
-        bytes.extend(request(2, number, 1));
-    }
+    let mut bytes = withdrawals(events);
     for number in events..events + pairs {
-        bytes.extend(request(3, number, 1));
-        bytes.extend(decision(ABORT, number));
+        bytes.extend(request(Event::Deposit(1), number));
+        bytes.extend(Message::Abort(head(number)).bytes());
     }
     bytes
+}
+
+/// An opened account with so many undecided withdrawals.
+fn withdrawals(events: u32) -> Vec<u8> {
+    let requests = (0..events).flat_map(|number| request(Event::Withdraw(1), number));
+    opened().into_iter().chain(requests).collect()
 }
 
 /// Account 0 opened half full, and committed.
 fn opened() -> Vec<u8> {
     let first = u32::MAX;
-    [request(1, first, LIMIT / 2), decision(COMMIT, first)].concat()
+    [request(Event::Open(LIMIT / 2), first), commit(first)].concat()
 }
 
 /// A request on account 0.
-fn request(kind: u8, transaction: u32, amount: u32) -> Vec<u8> {
-    Message { kind, transaction, account: 0, second: transaction, amount }.bytes(&Rules::DOCUMENT)
+fn request(event: Event, transaction: u32) -> Vec<u8> {
+    Message::request(head(transaction), event).bytes()
 }
 
-/// A commit or an abort on account 0.
-fn decision(kind: u8, transaction: u32) -> Vec<u8> {
-    request(kind, transaction, 0)
+/// A commit on account 0.
+fn commit(transaction: u32) -> Vec<u8> {
+    Message::Commit(head(transaction)).bytes()
+}
+
+/// What a message on account 0 names.
+fn head(transaction: u32) -> Head {
+    Head { transaction, account: 0, second: transaction }
 }

@@ -1,19 +1,19 @@
 //! The benchmark's streams do what their names say.
 
 use independent::contention::{simulate, Outcome, Pattern, Setting};
-use independent::entry;
+use independent::entry::{EntryRules, HELD};
 use independent::measure::{agree, Runner};
-use independent::rules::Rules;
+use independent::rules::Document;
 use independent::run::run;
 use independent::workload::{accepted, steady, undecided, IN_PROGRESS};
 
 /// The counts of outcomes weighed, in the order of the votes.
 fn counts(messages: &[u8]) -> Vec<u32> {
-    let entries = run(messages, Rules::DOCUMENT).entries;
+    let entries = run(messages, &Document).entries;
     let mut rest = entries.as_slice();
     let mut counts = Vec::new();
-    while let Some((entry, _, length)) = entry::read(rest, &Rules::DOCUMENT) {
-        counts.extend(entry.last().filter(|_| entry.kind() <= 19));
+    while let Some((entry, _, length)) = Document.read_entry(rest) {
+        counts.extend(entry.last().filter(|_| entry.kind() <= HELD));
         rest = &rest[length..];
     }
     counts
@@ -50,6 +50,6 @@ fn waiting() {
     let (eight, one) = (outcome(Pattern::Busy, 8), outcome(Pattern::Busy, 1));
     assert!(!one.waits.is_empty());
     assert!(eight.transfers > 2 * one.transfers);
-    let replayed = run(&eight.messages, Rules::DOCUMENT);
+    let replayed = run(&eight.messages, &Document);
     assert_eq!(replayed.refused, 0);
 }

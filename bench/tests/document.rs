@@ -2,20 +2,20 @@
 
 use independent::document::{examples, messages, SAMPLE};
 use independent::program;
-use independent::rules::Rules;
+use independent::rules::Document;
 
 /// The sample, byte for byte.
 #[test]
 fn the_sample() {
     let words = "open 1 100, commit 1, withdraw 2 60, withdraw 3 60, abort 2, commit 3";
-    assert_eq!(program::text(&messages(words).concat(), Rules::DOCUMENT), SAMPLE);
+    assert_eq!(program::text(&messages(words).concat(), &Document), SAMPLE);
 }
 
 /// Cases 1 to 10, and the programs that would look right.
 #[test]
 fn cases() {
     for example in examples() {
-        let text = example.target.text(&example.input, Rules::DOCUMENT);
+        let text = example.target.text(&example.input, &Document);
         let end = &text[text.len().saturating_sub(400)..];
         assert!(text.ends_with(&example.ends_in), "{}: {end}\nshould end in\n{}", example.name, example.ends_in);
     }
@@ -29,7 +29,7 @@ fn cases() {
 #[test]
 fn commits_out_of_order() {
     let words = "open 1 100, commit 1, deposit 2 50, withdraw 3 50, commit 3, commit 2";
-    let text = program::text(&messages(words).concat(), Rules::DOCUMENT);
+    let text = program::text(&messages(words).concat(), &Document);
     let end =
         "noted 3 0 100\nnoted 2 0 100\napplied 2 0 100 deposit 50 150\napplied 3 0 100 withdraw 50 100\nend 6 0\n";
     assert!(text.ends_with(end), "{text}");
@@ -39,7 +39,7 @@ fn commits_out_of_order() {
 #[test]
 fn places_in_the_sequence() {
     let words = "open 1 100, commit 1, withdraw 1 5, commit 1, withdraw 1 5, abort 1, withdraw 1 200, withdraw 1 1";
-    let text = program::text(&messages(words).concat(), Rules::DOCUMENT);
+    let text = program::text(&messages(words).concat(), &Document);
     let end = "accepted 1 0 100 withdraw 5 1\nnoted 1 0 100\napplied 1 0 100 withdraw 5 95\n\
                accepted 1 0 100 withdraw 5 1\ndropped 1 0 100 withdraw 5\n\
                rejected 1 0 100 withdraw 200 1\naccepted 1 0 100 withdraw 1 1\nend 8 0\n";
@@ -51,7 +51,7 @@ fn places_in_the_sequence() {
 fn abort_of_a_held_request() {
     let words = "open 1 100, commit 1, withdraw 2 60, withdraw 3 50, deposit 4 1, withdraw 5 200, withdraw 6 45, \
                  deposit 7 1, abort 3";
-    let text = program::text(&messages(words).concat(), Rules::DOCUMENT);
+    let text = program::text(&messages(words).concat(), &Document);
     let end = "dropped 3 0 100 withdraw 50\naccepted 4 0 100 deposit 1 2\nrejected 5 0 100 withdraw 200 4\nend 9 0\n";
     assert!(text.ends_with(end), "{text}");
 }
@@ -59,7 +59,7 @@ fn abort_of_a_held_request() {
 /// Refusals in the order of the list.
 #[test]
 fn refusals() {
-    let text = |bytes: &[u8]| program::text(bytes, Rules::DOCUMENT);
+    let text = |bytes: &[u8]| program::text(bytes, &Document);
     assert_eq!(text(&[]), "register 1\nend 0 0\n");
     assert_eq!(text(&[9]), "register 1\nrefused 2\nend 1 1\n");
     assert_eq!(text(&[4, 0, 0, 0, 1, 0, 16, 0, 0, 0]), "register 1\nrefused 1\nend 1 1\n");

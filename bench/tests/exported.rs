@@ -2,8 +2,8 @@
 
 use independent::document::messages;
 use independent::exported::{apart, told, BESIDE, HEAD};
-use independent::fault::Fault;
-use independent::rules::Rules;
+use independent::fault::{Fault, Wrong};
+use independent::rules::Document;
 use independent::streams::stream;
 use independent::subject::Target;
 
@@ -15,7 +15,7 @@ fn asked(room: u16, places: u8, words: &str) -> Vec<u8> {
 
 /// The model's text, without its first and last line.
 fn text(input: &[u8]) -> String {
-    let text = Target::Exported.text(input, Rules::DOCUMENT);
+    let text = Target::Exported.text(input, &Document);
     text.strip_prefix("exported 1\n").and_then(|text| text.strip_suffix("end\n")).expect("both ends").to_string()
 }
 
@@ -90,7 +90,7 @@ fn told_as_it_is() {
 fn faults_of_a_run() {
     let differs = |fault, target: Target, number| {
         let bytes = stream(target, 1, number).bytes;
-        target.text(&bytes, Rules::wrong(fault)) != target.text(&bytes, Rules::DOCUMENT)
+        target.text(&bytes, &Wrong(fault)) != target.text(&bytes, &Document)
     };
     for fault in [Fault::RegisterKept, Fault::FourPlacesOrNone] {
         assert!((0..30).any(|number| differs(fault, Target::Exported, number)), "{fault:?}");

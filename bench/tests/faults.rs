@@ -1,8 +1,8 @@
 //! The comparison bites: it finds each wrong version of the model.
 
 use independent::compare::{compare, shortest, streams_until, Plan};
-use independent::fault::Fault;
-use independent::rules::Rules;
+use independent::fault::{Fault, Wrong};
+use independent::rules::Document;
 use independent::subject::{Target, Version};
 
 /// Streams of each program that may pass before a fault has to be found.
@@ -30,7 +30,7 @@ fn every_fault_is_found() {
 #[test]
 fn the_right_version_passes() {
     let plan = Plan { seed: 3, first: 0, count: 120, until: None };
-    let mut found = compare(&Version(Rules::DOCUMENT), &plan);
+    let mut found = compare(&Version(Document), &plan);
     found.count_reached();
     assert_eq!((found.failed, found.lacking.len()), (0, 0));
     assert!(found.passed > 360);
@@ -43,5 +43,5 @@ fn a_difference_is_shrunk() {
     let short = shortest(Fault::LimitOneShort, Target::Program, 1, streams);
     assert!(short.len() <= 30, "{short:?}");
     let plan = Plan { seed: 3, first: 0, count: 4, until: None };
-    assert!(compare(&Version(Rules::wrong(Fault::LimitOneShort)), &plan).failed > 0);
+    assert!(compare(&Version(Wrong(Fault::LimitOneShort)), &plan).failed > 0);
 }

@@ -1,18 +1,18 @@
 //! What must hold of the model on seeded traffic: its short cuts against document 01's words.
 
-use independent::event::State;
+use independent::event::{EventRules, State};
 use independent::image::Image;
 use independent::order::{broken, Clause};
 use independent::random::Random;
 use independent::register::Register;
-use independent::rules::Rules;
-use independent::streams::frames::KINDS;
+use independent::rules::{Document, Judged};
+use independent::streams::probe::KINDS;
 use independent::streams::stream;
 use independent::streams::traffic::Traffic;
 use independent::subject::Target;
 use independent::tally::Tally;
 
-/// The state in an outcome, walked as document 01 says: a committed event is applied, an undecided one as its bit says.
+/// The state in an outcome, walked event by event: a committed one counts, an undecided one if its bit is set.
 fn walked(image: &Image, number: usize) -> State {
     let mut bit = 0;
     let mut state = image.state;
@@ -20,7 +20,7 @@ fn walked(image: &Image, number: usize) -> State {
         let applied = place.committed || number >> bit & 1 == 1;
         bit += usize::from(!place.committed);
         if applied {
-            state = place.event.effect(state, &Rules::DOCUMENT);
+            state = Document.effect(place.request.event, state);
         }
     }
     state
@@ -33,15 +33,15 @@ fn kept_outcomes_are_walked_outcomes() {
     for number in 0..12 {
         let mut traffic = Traffic::on(Random::of(5, number), 2);
         for _ in 0..1_500 {
-            let at = usize::from(traffic.send().account % 16);
+            let at = usize::from(traffic.send().head().account % 16);
             let account = traffic.register.account(at).expect("traffic keeps accounts in order");
             let image = account.image();
-            assert_eq!(broken(&image), []);
+            assert_eq!(broken(&image, &Document), []);
             let undecided = image.progress_places().iter().filter(|place| !place.committed).count();
             let states: Vec<State> = (0..1 << undecided).map(|number| walked(&image, number)).collect();
             assert_eq!(account.outcomes(), states);
-            let mut register = Register::fresh(Rules::DOCUMENT);
-            register.put(at, image);
+            let mut register = Register::fresh();
+            register.put(at, image, &Document);
             assert_eq!(register.image(at), image);
             assert_eq!(register.account(at).expect("in order").outcomes(), states);
         }
@@ -51,10 +51,9 @@ fn kept_outcomes_are_walked_outcomes() {
 /// Judging the order at every call changes nothing on registers that messages lead to.
 #[test]
 fn judged_calls_agree() {
-    let judged = Rules { judged: true, ..Rules::DOCUMENT };
     for number in 0..24 {
         let input = stream(Target::Program, 9, number).bytes;
-        assert_eq!(Target::Program.text(&input, judged), Target::Program.text(&input, Rules::DOCUMENT));
+        assert_eq!(Target::Program.text(&input, &Judged), Target::Program.text(&input, &Document));
     }
 }
 
@@ -65,7 +64,7 @@ fn streams_reach_everything() {
         let mut tally = Tally::default();
         for number in 0..150 {
             let stream = stream(target, 1, number);
-            tally.add(target, &stream.bytes, &target.text(&stream.bytes, Rules::DOCUMENT));
+            tally.add(target, &stream.bytes, &target.text(&stream.bytes, &Document));
         }
         assert_eq!(tally.lacking(target), Vec::<String>::new());
     }

@@ -1,14 +1,14 @@
 //! The probe's page on the independent implementation: lines written by hand from it.
 
 use independent::probe;
-use independent::rules::Rules;
+use independent::rules::Document;
 
 /// The lines between the first and the last for frames given as code and payload.
 fn lines(frames: &[(u8, &[u8])]) -> Vec<String> {
     let frame =
         |(code, payload): &(u8, &[u8])| [&[*code], &(payload.len() as u16).to_be_bytes()[..], *payload].concat();
     let input: Vec<u8> = frames.iter().flat_map(frame).collect();
-    let text = probe::text(&input, Rules::DOCUMENT);
+    let text = probe::text(&input, &Document);
     let all: Vec<&str> = text.lines().collect();
     assert_eq!(all[0], "probe 1");
     assert_eq!(all[all.len() - 1], format!("end {}", frames.len()));
@@ -20,7 +20,7 @@ const OPEN_SEVEN: [u8; 17] = [1, 59, 1, 0, 0, 0, 9, 0, 0, 0, 0, 0, 5, 0, 0, 0, 7
 /// Empty, torn and unknown input.
 #[test]
 fn input_as_a_whole() {
-    let text = |bytes: &[u8]| probe::text(bytes, Rules::DOCUMENT);
+    let text = |bytes: &[u8]| probe::text(bytes, &Document);
     assert_eq!(text(&[]), "probe 1\nend 0\n");
     assert_eq!(text(&[6]), "probe 1\ntorn\nend 1\n");
     assert_eq!(text(&[99, 0]), "probe 1\ntorn\nend 1\n");

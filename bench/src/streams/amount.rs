@@ -1,9 +1,9 @@
 //! Requests chosen by what the outcomes of an account allow.
 
 use crate::account::Account;
-use crate::event::Life;
+use crate::event::{Event, Life};
+use crate::limits::LIMIT;
 use crate::random::Random;
-use crate::rules::LIMIT;
 
 /// Whether no outcome of the account is opened.
 pub fn unopened(account: &Account) -> bool {
@@ -12,37 +12,37 @@ pub fn unopened(account: &Account) -> bool {
 }
 
 /// A request that every outcome allows, where there is an easy one.
-pub fn small(random: &mut Random, account: &Account) -> (u8, u32) {
+pub fn small(random: &mut Random, account: &Account) -> Event {
     let (lowest, highest) = span(account);
     if unopened(account) {
-        return (1, random.pick(&[0, 1, 10, 100, 1_000, LIMIT - 10, LIMIT]));
+        return Event::Open(random.pick(&[0, 1, 10, 100, 1_000, LIMIT - 10, LIMIT]));
     }
     let amount = random.between(1, 3) as u32;
     match (lowest > 50, highest < LIMIT - 50) {
-        (true, true) => (random.pick(&[2, 3]), amount),
-        (true, false) => (2, amount),
-        _ => (3, amount),
+        (true, true) => of(random.pick(&[2, 3]), amount),
+        (true, false) => Event::Withdraw(amount),
+        _ => Event::Deposit(amount),
     }
 }
 
 /// A request that the lowest and the highest outcome tell apart, where there is one.
-pub fn squeezing(random: &mut Random, account: &Account) -> (u8, u32) {
+pub fn squeezing(random: &mut Random, account: &Account) -> Event {
     if unopened(account) {
-        return (random.pick(&[1, 1, 2, 3, 4]), random.between(0, 20) as u32);
+        return of(random.pick(&[1, 1, 2, 3, 4]), random.between(0, 20) as u32);
     }
     let (lowest, highest) = span(account);
     let within = random.between(u64::from(lowest), u64::from(highest)) as u32;
     match random.below(24) {
-        0 => (4, 0),
-        1..=6 => (3, LIMIT.saturating_sub(within)),
-        7..=9 => (random.pick(&[2, 3]), random.between(1, 60) as u32),
-        10..=12 => (2, lowest / 2 + 1),
-        _ => (2, within),
+        0 => Event::Close,
+        1..=6 => Event::Deposit(LIMIT.saturating_sub(within)),
+        7..=9 => of(random.pick(&[2, 3]), random.between(1, 60) as u32),
+        10..=12 => Event::Withdraw(lowest / 2 + 1),
+        _ => Event::Withdraw(within),
     }
 }
 
 /// A request with an amount on one side of a line or the other.
-pub fn edge(random: &mut Random, account: &Account) -> (u8, u32) {
+pub fn edge(random: &mut Random, account: &Account) -> Event {
     let (lowest, highest) = span(account);
     let line = random.pick(&[0, lowest, highest, LIMIT.wrapping_sub(lowest), LIMIT.wrapping_sub(highest), LIMIT]);
     let amount = match random.below(10) {
@@ -53,9 +53,9 @@ pub fn edge(random: &mut Random, account: &Account) -> (u8, u32) {
     let kinds: &[u8] = if unopened(account) { &[1, 1, 1, 2, 3, 4] } else { &[2, 2, 2, 3, 3, 3, 1] };
     let kind = random.pick(kinds);
     if kind != 1 && random.chance(1) {
-        (4, 0)
+        Event::Close
     } else {
-        (kind, amount)
+        of(kind, amount)
     }
 }
 
@@ -63,4 +63,9 @@ pub fn edge(random: &mut Random, account: &Account) -> (u8, u32) {
 fn span(account: &Account) -> (u32, u32) {
     let balances = account.outcomes().iter().map(|state| state.balance);
     (balances.clone().min().unwrap_or(0), balances.max().unwrap_or(0))
+}
+
+/// The event of a kind, 1 to 4.
+pub fn of(kind: u8, amount: u32) -> Event {
+    Event::of(kind, amount).unwrap_or(Event::Close)
 }

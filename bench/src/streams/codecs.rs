@@ -1,9 +1,10 @@
 //! Frames for the readers and writers, for rooms, and frames that do not fit.
 
-use crate::message::{self, Message};
+use crate::limits::ROOM;
+use crate::message::{self, HEAD};
 use crate::probe::WIDEST;
 use crate::random::Random;
-use crate::rules::{Rules, ROOM};
+use crate::rules::Document;
 use crate::run::run;
 use crate::streams::frames::Frames;
 use crate::streams::messages::at_random;
@@ -36,7 +37,7 @@ const ACCOUNT_EDGES: [u16; 10] = [0, 1, 7, 15, 15, 16, 255, 256, 257, 65_535];
 /// A call in any room; now and then its message is cut, empty, followed by bytes, or of no kind.
 pub fn rooms(frames: &mut Frames) {
     let message = frames.traffic.compose();
-    let mut bytes = message.bytes(&Rules::DOCUMENT);
+    let mut bytes = message.bytes();
     let random = &mut frames.traffic.random;
     let room = if random.chance(60) { ROOM } else { random.pick(&ROOMS) };
     match random.below(10) {
@@ -50,7 +51,7 @@ pub fn rooms(frames: &mut Frames) {
         _ => {}
     }
     frames.call(room, &bytes);
-    frames.look(message.account);
+    frames.look(message.head().account);
 }
 
 /// One of the frames 3, 4, 7 and 67.
@@ -80,11 +81,13 @@ fn writing(random: &mut Random) -> Vec<u8> {
     let kind = random.pick(&[1, 2, 3, 4, 5, 6, 1, 2, 3, 4, 5, 6, 0, 7, 33, 255]);
     let any = |random: &mut Random| random.number() as u32;
     let second = any(random);
-    let message = Message { kind, transaction: any(random), account: random.pick(&ACCOUNT_EDGES), second, amount: 0 };
-    let length = message::length(kind).unwrap_or(11);
+    let (transaction, account) = (any(random), random.pick(&ACCOUNT_EDGES));
+    let length = message::length(kind).unwrap_or(HEAD);
     let room = random.pick(&[length - 1, length, length + 1, 0, 14, 15, 11, WIDEST, WIDEST + 1, 65_535]);
-    let mut payload = message.bytes(&Rules::DOCUMENT);
-    payload.truncate(11);
+    let mut payload = vec![kind];
+    payload.extend(transaction.to_be_bytes());
+    payload.extend(account.to_be_bytes());
+    payload.extend(second.to_be_bytes());
     payload.extend(any(random).to_be_bytes());
     payload.extend((room as u16).to_be_bytes());
     payload
@@ -94,7 +97,7 @@ fn writing(random: &mut Random) -> Vec<u8> {
 fn an_entry(random: &mut Random) -> Vec<u8> {
     if random.chance(40) {
         let messages: Vec<u8> = (0..6).flat_map(|_| at_random(random)).collect();
-        return run(&messages, Rules::DOCUMENT).entries;
+        return run(&messages, &Document).entries;
     }
     let kind = random.between(17, 22) as u8;
     let mut bytes = vec![kind];

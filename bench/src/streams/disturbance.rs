@@ -2,11 +2,15 @@
 
 use crate::event::{Event, Life, State};
 use crate::image::{Image, Place};
-use crate::message::Message;
+use crate::limits::{ACCOUNTS, LIMIT, PLACES, ROOM};
+use crate::message::{Head, Message};
 use crate::order::{broken, Clause};
 use crate::random::Random;
-use crate::rules::{Rules, ACCOUNTS, LIMIT, PLACES, ROOM};
+use crate::request::Request;
+use crate::rules::Document;
+use crate::streams::amount;
 use crate::streams::frames::Frames;
+use crate::streams::traffic::of_kind;
 
 /// A field, a place and a value, as frame 5 has them.
 pub type Change = (u8, u8, u32);
@@ -26,14 +30,15 @@ pub fn clauses(frames: &mut Frames, rounds: usize) {
         }
         for _ in 0..40 {
             let message = frames.traffic.compose();
-            frames.call(ROOM, &message.bytes(&Rules::DOCUMENT));
-            if usize::from(message.account) >= ACCOUNTS {
+            frames.call(ROOM, &message.bytes());
+            let Head { account, .. } = message.head();
+            if usize::from(account) >= ACCOUNTS {
                 continue;
             }
-            let before = frames.image(message.account);
+            let before = frames.image(account);
             if let Some(changes) = alone(&mut frames.traffic.random, clause, &before) {
-                show_broken(frames, message.account, &changes);
-                mend(frames, message.account, &before);
+                show_broken(frames, account, &changes);
+                mend(frames, account, &before);
                 break;
             }
         }
@@ -45,7 +50,7 @@ fn alone(random: &mut Random, clause: Clause, before: &Image) -> Option<Vec<Chan
     let changes = proposal(random, clause, before);
     let mut image = *before;
     let known = changes.iter().all(|change| image.disturb(change.0, change.1, change.2));
-    (known && broken(&image) == [clause]).then_some(changes)
+    (known && broken(&image, &Document) == [clause]).then_some(changes)
 }
 
 /// Changes that may break the clause.
@@ -63,7 +68,7 @@ fn proposal(random: &mut Random, clause: Clause, image: &Image) -> Vec<Change> {
         Clause::TransactionsDiffer => {
             let places = [random.below(in_progress) as u8, holding, progressing];
             let (from, to) = (random.pick(&places), random.pick(&places));
-            vec![(4, to, image.places[usize::from(from)].transaction)]
+            vec![(4, to, image.places[usize::from(from)].request.transaction)]
         }
         Clause::BlanksBlank => {
             let place = random.below(2 * PLACES as u64) as u8;
@@ -91,19 +96,19 @@ fn show_broken(frames: &mut Frames, account: u16, changes: &[Change]) {
     changes.iter().for_each(|change| frames.disturb(account, *change));
     frames.show(account);
     let place = frames.traffic.random.pick(&[0, 1, 8]);
-    let transaction = frames.image(account).places[place].transaction;
+    let head = Head { transaction: frames.image(account).places[place].request.transaction, account, second: 5 };
     for kind in 1..=6 {
-        let message = Message { kind, transaction, account, second: 5, amount: 1 };
+        let message = of_kind(kind, head, 1);
         let room = if frames.traffic.random.chance(15) { ROOM - 1 } else { ROOM };
-        frames.call(room, &message.bytes(&Rules::DOCUMENT));
+        frames.call(room, &message.bytes());
     }
-    let free = Message { kind: 3, transaction: 4_000_000, account, second: 6, amount: 1 };
-    frames.call(ROOM, &free.bytes(&Rules::DOCUMENT));
-    let elsewhere = Message { account: 15 - account, kind: 1, ..free };
-    frames.call(ROOM, &elsewhere.bytes(&Rules::DOCUMENT));
+    let free = Head { transaction: 4_000_000, account, second: 6 };
+    frames.call(ROOM, &Message::request(free, Event::Deposit(1)).bytes());
+    let elsewhere = Head { account: 15 - account, ..free };
+    frames.call(ROOM, &Message::request(elsewhere, Event::Open(1)).bytes());
     let kind = frames.traffic.random.between(1, 6) as u8;
-    frames.single(&Message { kind, ..free });
-    frames.run(ROOM, &Message { kind: 1, ..free }.bytes(&Rules::DOCUMENT));
+    frames.single(&of_kind(kind, free, 1), 1);
+    frames.run(ROOM, &Message::request(free, Event::Open(1)).bytes());
     frames.order(account);
     frames.question(account);
     frames.show(account);
@@ -131,7 +136,8 @@ pub fn changes(from: &Image, to: &Image) -> Vec<Change> {
     differ(1, 0, from.state.balance, to.state.balance);
     differ(2, 0, from.in_progress, to.in_progress);
     differ(3, 0, from.held, to.held);
-    for (at, (old, new)) in from.places.iter().zip(&to.places).enumerate() {
+    for (at, (from, to)) in from.places.iter().zip(&to.places).enumerate() {
+        let (old, new) = (from.request, to.request);
         differ(4, at, old.transaction, new.transaction);
         differ(5, at, old.second, new.second);
         differ(6, at, old.event.kind().into(), new.event.kind().into());
@@ -139,7 +145,7 @@ pub fn changes(from: &Image, to: &Image) -> Vec<Change> {
             // A place that held a Close has the amount 0 by now.
             differ(7, at, old.event.amount(), new.event.amount());
         }
-        differ(8, at, old.committed.into(), new.committed.into());
+        differ(8, at, from.committed.into(), to.committed.into());
     }
     changes
 }
@@ -148,7 +154,7 @@ pub fn changes(from: &Image, to: &Image) -> Vec<Change> {
 pub fn at_random(frames: &mut Frames, count: usize) {
     for _ in 0..count {
         let message = frames.traffic.compose();
-        let account = message.account % 16;
+        let account = message.head().account % 16;
         let before = frames.image(account);
         let times = if frames.traffic.random.chance(30) { frames.traffic.random.between(1, 3) } else { 0 };
         for _ in 0..times {
@@ -156,7 +162,7 @@ pub fn at_random(frames: &mut Frames, count: usize) {
             let account = if frames.traffic.random.chance(3) { 16 } else { account };
             frames.disturb(account, change);
         }
-        frames.call(ROOM, &message.bytes(&Rules::DOCUMENT));
+        frames.call(ROOM, &message.bytes());
         frames.look(account);
         let stuck = frames.traffic.register.account(usize::from(account)).is_none();
         if stuck && frames.traffic.random.chance(60) {
@@ -177,7 +183,7 @@ fn any_change(random: &mut Random, image: &Image) -> Change {
     };
     let number = random.pick(&[0, 1, 2, 3, 4, 5, 8, 9, 256, 257, 260, LIMIT, LIMIT + 1, 1 << 16, u32::MAX]);
     let any = random.number() as u32;
-    let near = image.places[place as usize % 16].event.amount();
+    let near = image.places[place as usize % 16].request.event.amount();
     let value = match field {
         0 | 6 | 8 => random.pick(&[0, 1, 2, 3, 4, 1, 2, 256, 258, number]),
         2 => beside(random, image.in_progress, number),
@@ -208,7 +214,7 @@ pub fn built(frames: &mut Frames, count: usize) {
         frames.show(account);
         for _ in 0..frames.traffic.random.between(1, 12) {
             let message = frames.traffic.compose_for(account);
-            frames.call(ROOM, &message.bytes(&Rules::DOCUMENT));
+            frames.call(ROOM, &message.bytes());
             frames.look(account);
         }
     }
@@ -224,8 +230,8 @@ fn any_image(random: &mut Random) -> Image {
         transaction += random.between(1, 3) as u32;
         let amount = random.pick(&[0, 1, 2, 3, 10, 50, 100, balance, LIMIT - balance, LIMIT]);
         let kind = random.pick(&[1, 2, 2, 3, 3, 4]);
-        let event = Event::of(kind, amount).unwrap_or(Event::Close);
-        Place { transaction, second: random.below(3) as u32, event, committed }
+        let request = Request { transaction, second: random.below(3) as u32, event: amount::of(kind, amount) };
+        Place { request, committed }
     };
     for _ in 0..random.below(30) {
         let at = image.in_progress as usize;
@@ -234,7 +240,7 @@ fn any_image(random: &mut Random) -> Image {
             let mut next = image;
             next.places[at] = place(random, committed);
             next.in_progress += 1;
-            image = if broken(&next).is_empty() || random.chance(1) { next } else { image };
+            image = if broken(&next, &Document).is_empty() || random.chance(1) { next } else { image };
         }
     }
     let most = random.below(9);
@@ -244,7 +250,7 @@ fn any_image(random: &mut Random) -> Image {
             let mut next = image;
             next.places[PLACES + at] = place(random, false);
             next.held += 1;
-            image = if broken(&next).is_empty() { next } else { image };
+            image = if broken(&next, &Document).is_empty() { next } else { image };
         }
     }
     image

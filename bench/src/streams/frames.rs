@@ -1,52 +1,13 @@
-//! Streams for the probe: frames one after the other, and what is not frames.
+//! Frames of the probe as they are put together, with the traffic that they drive.
 
 use crate::image::Image;
-use crate::message::Message;
+use crate::limits::{ACCOUNTS, ROOM};
+use crate::message::{self, Head, Message};
 use crate::probe::WIDEST;
 use crate::random::Random;
-use crate::rules::{Rules, ACCOUNTS, LONGEST, ROOM};
+use crate::register::RegisterRules;
+use crate::rules::Document;
 use crate::streams::traffic::Traffic;
-use crate::streams::{codecs, disturbance, runs};
-
-/// The kinds of streams, each with what it is after.
-pub const KINDS: [&str; 12] = [
-    "calls on one account at a time",
-    "calls on four accounts",
-    "rooms and torn messages",
-    "readers and writers",
-    "each clause of order alone",
-    "fields set at random",
-    "accounts built field by field",
-    "frames that do not fit",
-    "arbitrary bytes",
-    "single steps among calls",
-    "runs among calls",
-    "the longest input",
-];
-
-/// A stream of the kind.
-pub fn stream(kind: usize, mut random: Random) -> Vec<u8> {
-    let count = random.length(3, 700);
-    let accounts = if matches!(kind, 0 | 2 | 4) { 1 } else { 4 };
-    let mut frames = Frames::on(random, accounts);
-    match kind {
-        0 | 1 => (0..count).for_each(|_| frames.step(10)),
-        2 => (0..count).for_each(|_| codecs::rooms(&mut frames)),
-        3 => (0..count).for_each(|_| codecs::readers_and_writers(&mut frames)),
-        4 => disturbance::clauses(&mut frames, count.min(60)),
-        5 => disturbance::at_random(&mut frames, count),
-        6 => disturbance::built(&mut frames, count.min(40)),
-        7 => codecs::misfits(&mut frames, count),
-        8 => codecs::arbitrary(&mut frames),
-        9 => (0..count).for_each(|_| frames.step(85)),
-        10 => (0..count.min(60)).for_each(|_| runs::frame(&mut frames)),
-        _ => longest(&mut frames),
-    }
-    if kind != 11 {
-        frames.bytes.truncate(LONGEST);
-    }
-    frames.bytes
-}
 
 /// Frames so far, with the traffic that they drive.
 pub struct Frames {
@@ -87,7 +48,7 @@ impl Frames {
         if usize::from(account) < ACCOUNTS {
             let mut image = self.image(account);
             if image.disturb(field, place, value) {
-                self.traffic.register.put(usize::from(account), image);
+                self.traffic.register.put(usize::from(account), image, &Document);
             }
         }
     }
@@ -107,13 +68,13 @@ impl Frames {
         self.frame(65, &[&(room as u16).to_be_bytes(), messages]);
     }
 
-    /// Frame 68, and the traffic's register goes on by it.
-    pub fn single(&mut self, message: &Message) {
-        let Message { kind, transaction, account, second, amount } = *message;
-        let head = [&account.to_be_bytes()[..], &[kind]].concat();
+    /// Frame 68 with an amount, which is not looked at where the kind has none; the traffic's register goes on by it.
+    pub fn single(&mut self, message: &Message, amount: u32) {
+        let Head { transaction, account, second } = message.head();
+        let head = [&account.to_be_bytes()[..], &[message.kind()]].concat();
         self.frame(68, &[&head, &transaction.to_be_bytes(), &second.to_be_bytes(), &amount.to_be_bytes()]);
         if usize::from(account) < ACCOUNTS {
-            let _ = self.traffic.register.step(message);
+            let _ = Document.single(&mut self.traffic.register, message);
         }
     }
 
@@ -124,17 +85,16 @@ impl Frames {
 
     /// The next message in a call, or so many times in a hundred as a single step; often a look at the account.
     pub fn step(&mut self, singles: u64) {
-        let mut message = self.traffic.compose();
+        let message = self.traffic.compose();
         if self.traffic.random.chance(singles) {
-            if message.kind > 3 {
-                message.amount = self.traffic.random.pick(&[0, 1, u32::MAX]);
-            }
-            self.single(&message);
+            let none = message::length(message.kind()) == Some(message::HEAD);
+            let amount = if none { self.traffic.random.pick(&[0, 1, u32::MAX]) } else { message.amount() };
+            self.single(&message, amount);
         } else {
             let room = self.traffic.random.pick(&[ROOM, ROOM, ROOM, 316, 500, WIDEST]);
-            self.call(room, &message.bytes(&Rules::DOCUMENT));
+            self.call(room, &message.bytes());
         }
-        self.look(message.account);
+        self.look(message.head().account);
     }
 
     /// Now and then a show, an outcome question, or the question whether the account is in order.
@@ -164,44 +124,5 @@ impl Frames {
         };
         let account = if random.chance(4) { random.pick(&[16, 256, 65_535]) } else { account };
         self.outcome(account, number as u32);
-    }
-}
-
-/// Input about as long as the probe takes, or longer.
-fn longest(frames: &mut Frames) {
-    if frames.traffic.random.chance(12) {
-        return longest_lines(frames);
-    }
-    let length = match frames.traffic.random.below(4) {
-        0 => LONGEST,
-        1 => LONGEST + 1 + frames.traffic.random.below(5_000) as usize,
-        2 => LONGEST - frames.traffic.random.below(16) as usize,
-        _ => LONGEST + 1,
-    };
-    while frames.bytes.len() + 100 < length {
-        frames.step(10);
-    }
-    if frames.traffic.random.chance(60) {
-        let left = length - frames.bytes.len() - 3;
-        let payload = frames.traffic.random.bytes(left);
-        frames.frame(3, &[&payload]);
-    }
-    frames.bytes.resize(length, 6);
-}
-
-/// As many of the longest lines as an input can ask for: every number of an account is the highest.
-fn longest_lines(frames: &mut Frames) {
-    let most = u32::MAX;
-    let account = frames.traffic.random.below(16) as u16;
-    for change in [(0, 0, 1), (1, 0, most), (2, 0, most), (3, 0, most)] {
-        frames.disturb(account, change);
-    }
-    for place in 0..16 {
-        for change in [(4, place, most), (5, place, most), (6, place, 3), (7, place, most), (8, place, 1)] {
-            frames.disturb(account, change);
-        }
-    }
-    while frames.bytes.len() + 5 <= LONGEST {
-        frames.show(account);
     }
 }

@@ -1,9 +1,10 @@
 //! Streams for the program: messages one after the other, and what is not messages.
 
-use crate::message::Message;
+use crate::event::Event;
+use crate::limits::LONGEST;
+use crate::message::{Head, Message};
 use crate::random::Random;
-use crate::rules::{Rules, LONGEST};
-use crate::streams::traffic::Traffic;
+use crate::streams::traffic::{of_kind, Traffic};
 
 /// The kinds of streams, each with what it is after.
 pub const KINDS: [&str; 8] = [
@@ -40,7 +41,7 @@ pub fn counted(kind: usize, mut random: Random, count: usize) -> Vec<u8> {
 /// So many guided messages on so many accounts.
 fn traffic(random: Random, accounts: usize, count: usize) -> Vec<u8> {
     let mut traffic = Traffic::on(random, accounts);
-    (0..count).flat_map(|_| traffic.send().bytes(&Rules::DOCUMENT)).collect()
+    (0..count).flat_map(|_| traffic.send().bytes()).collect()
 }
 
 /// Guided messages, the last of them cut; now and then it shows account 16.
@@ -48,7 +49,7 @@ fn torn(mut random: Random, count: usize) -> Vec<u8> {
     let mut bytes = traffic(Random::of(random.number(), 0), 2, count.min(200));
     let account = random.pick(&[0, 15, 16, 256, 65_535]);
     let kind = random.between(1, 6) as u8;
-    let last = Message { kind, transaction: 9, account, second: 100, amount: 7 }.bytes(&Rules::DOCUMENT);
+    let last = of_kind(kind, Head { transaction: 9, account, second: 100 }, 7).bytes();
     let left = random.between(0, last.len() as u64 - 1) as usize;
     bytes.extend(&last[..left]);
     bytes
@@ -72,7 +73,7 @@ pub fn at_random(random: &mut Random) -> Vec<u8> {
     let account = random.pick(&[0, 0, 0, 1, 15, 16]);
     let second = random.between(0, 2) as u32;
     let amount = random.pick(&[0, 1, 2, 10, 50, 100, 999_999, 1_000_000, 1_000_001]);
-    Message { kind, transaction, account, second, amount }.bytes(&Rules::DOCUMENT)
+    of_kind(kind, Head { transaction, account, second }, amount).bytes()
 }
 
 /// Arbitrary bytes; half of the time with low first bytes, so that some are messages.
@@ -104,7 +105,7 @@ fn longest(mut random: Random) -> Vec<u8> {
     let mut traffic = Traffic::on(random, 4);
     let mut bytes = Vec::with_capacity(length);
     while bytes.len() + 200 < length {
-        bytes.extend(traffic.send().bytes(&Rules::DOCUMENT));
+        bytes.extend(traffic.send().bytes());
     }
     if whole {
         finish(&mut bytes, length);
@@ -118,8 +119,9 @@ fn finish(bytes: &mut Vec<u8>, length: usize) {
     let mut transaction = 0;
     while bytes.len() < length {
         transaction += 1;
-        let kind = if (length - bytes.len()).is_multiple_of(15) { 2 } else { 6 };
-        let message = Message { kind, transaction, account: 15, second: 0, amount: 1 };
-        bytes.extend(message.bytes(&Rules::DOCUMENT));
+        let head = Head { transaction, account: 15, second: 0 };
+        let fits = (length - bytes.len()).is_multiple_of(15);
+        let message = if fits { Message::request(head, Event::Withdraw(1)) } else { Message::Abort(head) };
+        bytes.extend(message.bytes());
     }
 }

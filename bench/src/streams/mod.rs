@@ -1,12 +1,13 @@
 //! Seeded streams of bytes for the program, for the probe and for the exported call.
 
 pub mod amount;
+pub mod traffic;
+pub mod messages;
+pub mod frames;
 pub mod codecs;
 pub mod disturbance;
-pub mod frames;
-pub mod messages;
 pub mod runs;
-pub mod traffic;
+pub mod probe;
 
 use crate::random::Random;
 use crate::subject::Target;
@@ -23,14 +24,14 @@ pub struct Stream {
 pub fn stream(target: Target, seed: u64, number: u64) -> Stream {
     let kinds: &[&'static str] = match target {
         Target::Program => &messages::KINDS,
-        Target::Probe => &frames::KINDS,
+        Target::Probe => &probe::KINDS,
         Target::Exported => &runs::KINDS,
     };
     let kind = (number % kinds.len() as u64) as usize;
     let random = Random::of(seed ^ target as u64, number);
     let bytes = match target {
         Target::Program => messages::stream(kind, random),
-        Target::Probe => frames::stream(kind, random),
+        Target::Probe => probe::stream(kind, random),
         Target::Exported => runs::stream(kind, random),
     };
     Stream { target, after: kinds[kind], bytes }

@@ -1,9 +1,10 @@
 //! Streams for the exported call, and frames of the probe: what a run is lent, and its messages.
 
 use crate::exported::MOST_ROOM;
+use crate::limits::ROOM;
 use crate::probe::WIDEST;
 use crate::random::Random;
-use crate::rules::{Rules, ROOM};
+use crate::rules::Document;
 use crate::run::run;
 use crate::streams::frames::Frames;
 use crate::streams::messages;
@@ -30,7 +31,7 @@ pub fn stream(kind: usize, mut random: Random) -> Vec<u8> {
     if kind == 5 && random.chance(30) {
         sent.clear();
     }
-    let entries = run(&sent, Rules::DOCUMENT).entries.len();
+    let entries = run(&sent, &Document).entries.len();
     let room = match kind {
         0 => entries + ROOM + random.below(200) as usize,
         1 => random.length(ROOM, ROOM.max(entries)),

@@ -1,11 +1,12 @@
 //! Messages that lead somewhere: each is chosen with the state in view that it will meet.
 
 use crate::account::{Account, Standing};
-use crate::event::Life;
-use crate::message::{Message, ABORT, COMMIT};
+use crate::event::{Event, Life};
+use crate::limits::{ACCOUNTS, LIMIT, PLACES, ROOM};
+use crate::message::{Head, Message, ABORT, COMMIT};
 use crate::random::Random;
-use crate::register::Register;
-use crate::rules::{Rules, ACCOUNTS, LIMIT, PLACES, ROOM};
+use crate::register::{Register, RegisterRules};
+use crate::rules::Document;
 use crate::streams::amount::{edge, small, squeezing, unopened};
 
 /// What the next messages are after.
@@ -48,7 +49,7 @@ impl Traffic {
         let accounts: Vec<u16> = (0..count as u64).map(|at| ((first + at) % 16) as u16).collect();
         let pool = random.pick(&[0, 18, 20, 24, 40]);
         let growth = random.pick(&[0, 0, 1, u32::MAX]);
-        let register = Register::fresh(Rules::DOCUMENT);
+        let register = Register::fresh();
         let account = accounts[0];
         let second = (random.pick(&[0, 100, u32::MAX]), growth);
         Traffic { random, register, accounts, account, mood: Mood::Fill, left: 0, pool, second }
@@ -57,13 +58,13 @@ impl Traffic {
     /// The next message, sent to the register with room for its entries.
     pub fn send(&mut self) -> Message {
         let message = self.compose();
-        self.receive(&message.bytes(&Rules::DOCUMENT), ROOM);
+        self.receive(&message.bytes(), ROOM);
         message
     }
 
     /// Lets the register have what was sent.
     pub fn receive(&mut self, bytes: &[u8], room: usize) {
-        let _ = self.register.take(bytes, room);
+        let _ = Document.take(&mut self.register, bytes, room);
     }
 
     /// The next message, not yet sent.
@@ -89,8 +90,8 @@ impl Traffic {
             Mood::Squeeze => self.squeeze(at, &account),
             Mood::Decide => self.decide(at, &account),
             Mood::Edge => {
-                let (kind, amount) = edge(&mut self.random, &account);
-                self.request(at, &account, kind, amount)
+                let event = edge(&mut self.random, &account);
+                self.request(at, &account, event)
             }
             Mood::Pole => self.pole(at, &account),
             Mood::Wrong => self.wrong(at, &account),
@@ -133,16 +134,16 @@ impl Traffic {
         let undecided = account.with(Standing::Undecided);
         if undecided.len() > 1 && self.random.chance(10) {
             let transaction = self.random.pick(&undecided[1..]);
-            return self.message(COMMIT, transaction, at, 0);
+            return self.message(transaction, at, Message::Commit);
         }
         if account.with(Standing::Held).len() == PLACES && self.random.chance(70) {
             return self.decide(at, account);
         }
         if unopened(account) && !undecided.is_empty() && self.random.chance(70) {
-            return self.message(COMMIT, undecided[0], at, 0);
+            return self.message(undecided[0], at, Message::Commit);
         }
-        let (kind, amount) = small(&mut self.random, account);
-        self.request(at, account, kind, amount)
+        let event = small(&mut self.random, account);
+        self.request(at, account, event)
     }
 
     /// A request between the lowest and the highest outcome, mostly.
@@ -150,8 +151,8 @@ impl Traffic {
         if self.random.chance(25) {
             return self.decide(at, account);
         }
-        let (kind, amount) = squeezing(&mut self.random, account);
-        self.request(at, account, kind, amount)
+        let event = squeezing(&mut self.random, account);
+        self.request(at, account, event)
     }
 
     /// A commit or an abort of what is undecided, the newest as often as the oldest; or an abort of what is held.
@@ -164,7 +165,7 @@ impl Traffic {
         if undecided.is_empty() || !held.is_empty() && self.random.chance(20) {
             let oldest = self.random.chance(50);
             return match if oldest { held.first().copied() } else { self.random.any(&held) } {
-                Some(transaction) => self.message(ABORT, transaction, at, 0),
+                Some(transaction) => self.message(transaction, at, Message::Abort),
                 None => self.fill(at, account),
             };
         }
@@ -173,22 +174,22 @@ impl Traffic {
             1 => undecided[undecided.len() - 1],
             _ => self.random.pick(&undecided),
         };
-        let kind = if self.random.chance(65) { COMMIT } else { ABORT };
-        self.message(kind, transaction, at, 0)
+        let decision = if self.random.chance(65) { Message::Commit } else { Message::Abort };
+        self.message(transaction, at, decision)
     }
 
     /// All of the balance withdrawn, or deposited up to the limit, and committed.
     fn pole(&mut self, at: u16, account: &Account) -> Message {
         if let Some(oldest) = account.with(Standing::Undecided).first() {
-            return self.message(COMMIT, *oldest, at, 0);
+            return self.message(*oldest, at, Message::Commit);
         }
         if unopened(account) {
             return self.fill(at, account);
         }
         let balance = account.outcomes()[0].balance;
-        let choices = [(2, balance), (3, LIMIT.wrapping_sub(balance))];
-        let (kind, amount) = self.random.pick(&choices);
-        self.request(at, account, kind, amount)
+        let choices = [Event::Withdraw(balance), Event::Deposit(LIMIT.wrapping_sub(balance))];
+        let event = self.random.pick(&choices);
+        self.request(at, account, event)
     }
 
     /// A message that the register refuses, where there is occasion for it.
@@ -209,7 +210,7 @@ impl Traffic {
         let (kind, transaction, account_number) = self.random.pick(&occasions);
         let transaction = transaction.unwrap_or_else(|| self.number(account));
         let amount = self.random.between(0, 9) as u32;
-        self.message(kind, transaction, account_number, amount)
+        self.message(transaction, account_number, |head| of_kind(kind, head, amount))
     }
 
     /// Eight in progress, eight held, commits from the newest to the oldest.
@@ -220,11 +221,11 @@ impl Traffic {
             return self.fill(at, account);
         }
         if let (PLACES, Some(newest)) = (held, undecided.last()) {
-            return self.message(COMMIT, *newest, at, 0);
+            return self.message(*newest, at, Message::Commit);
         }
-        let (kind, amount) = small(&mut self.random, account);
+        let event = small(&mut self.random, account);
         let transaction = self.free(account);
-        self.message(kind, transaction, at, amount)
+        self.message(transaction, at, |head| Message::request(head, event))
     }
 
     /// A message of any kind and any numbers.
@@ -232,13 +233,13 @@ impl Traffic {
         let kind = self.random.between(1, 6) as u8;
         let transaction = self.random.between(0, 24) as u32;
         let amount = if self.random.chance(50) { self.random.number() as u32 } else { self.random.below(200) as u32 };
-        self.message(kind, transaction, at, amount)
+        self.message(transaction, at, |head| of_kind(kind, head, amount))
     }
 
     /// A request with a number that is free, mostly.
-    fn request(&mut self, at: u16, account: &Account, kind: u8, amount: u32) -> Message {
+    fn request(&mut self, at: u16, account: &Account, event: Event) -> Message {
         let transaction = if self.random.chance(95) { self.free(account) } else { self.number(account) };
-        self.message(kind, transaction, at, amount)
+        self.message(transaction, at, |head| Message::request(head, event))
     }
 
     /// A transaction number with no standing on the account.
@@ -263,11 +264,15 @@ impl Traffic {
         }
     }
 
-    /// The message with those numbers and the next second.
-    fn message(&mut self, kind: u8, transaction: u32, account: u16, amount: u32) -> Message {
+    /// A message with those numbers and the next second.
+    fn message(&mut self, transaction: u32, account: u16, message: impl FnOnce(Head) -> Message) -> Message {
         let (second, growth) = self.second;
         self.second.0 = second.wrapping_add(self.random.between(0, u64::from(growth)) as u32);
-        let amount = if kind <= 3 { amount } else { 0 };
-        Message { kind, transaction, account, second, amount }
+        message(Head { transaction, account, second })
     }
+}
+
+/// The message of a kind, 1 to 6.
+pub fn of_kind(kind: u8, head: Head, amount: u32) -> Message {
+    Message::of(kind, head, amount).unwrap_or(Message::Abort(head))
 }

@@ -1,6 +1,10 @@
-//! The wrong versions that the comparison has to find, each a switch in the model.
+//! The list of wrong versions, each with what is wrong in it.
 
 use crate::order::Clause;
+
+/// The model with one fault: where its fault has nothing to say, it does as document 01 does.
+#[derive(Clone, Copy, PartialEq, Eq, Debug)]
+pub struct Wrong(pub Fault);
 
 /// Declares the faults, each with the sentence that tells what is wrong.
 macro_rules! faults {
@@ -32,7 +36,7 @@ macro_rules! faults {
 }
 
 faults! {
-    CommitAppliedAtOnce: "a commit is applied when it comes, before an older undecided event",
+    CommitAppliedAtOnce: "a commit is applied at once, ahead of an older event that is undecided",
     OnlyAllOrNone: "only the outcomes 'all commit' and 'none commit' are weighed",
     RequestPassesHeld: "a new request passes a held one",
     LaterHeldPasses: "a later held request passes one that stays held",

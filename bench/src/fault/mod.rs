@@ -1,0 +1,10 @@
+//! The wrong versions that the comparison has to find: the list, and what each does otherwise where document 01 has its
+//! sentence.
+
+mod list;
+mod account;
+mod codec;
+mod call;
+mod text;
+
+pub use list::{Fault, Wrong};
