@@ -44,7 +44,7 @@ module _ {A : Type 0} (p : A → Bool) (x : A) (xs l : List A) (next : l ≡ x �
   pub some-stop : p x ≡ true → true ≡ some-of p l
   some-stop h = rw (next, h)
 
--- "a new or closed account has balance 0": it is opened, or its balance is 0
+-- no balance unless the account is opened: it is opened, or its balance is 0
 pub fits-same : (s : State) → (leb (s .balance) limit && (isOpened (s .life) || eqb (s .balance) 0)) ≡ stateFits s
 fits-same s = ap (λ (b : Bool). leb (s .balance) limit && b) (or-cond (isOpened (s .life)) (eqb (s .balance) 0))
   where
@@ -110,7 +110,7 @@ accept-every false true = refl
 accept-every false false = refl
 
 module _ (w : Weighing) (e : Event) (s : State) (xs : List RuleSlot) (decided : weighingOf w ≡ decide panel e s xs) where
-  -- a request that is accepted finds its guard true in every outcome
+  -- the guard of a request that is accepted is true in every outcome
   pub accepted-every : isAccept (w .verdict) ≡ true → every (guardOf e) (outcomes panel xs s) ≡ true
   unfolding decide weigh ruleAccept
   accepted-every h = go (leb 8 (length xs)) refl

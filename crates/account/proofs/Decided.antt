@@ -1,4 +1,4 @@
--- The decision by the ends of the outcomes is the rule's, where each event in progress finds its guard; with no free place it is to hold.
+-- The decision by the ends of the outcomes is the rule's, where each event finds its guard; with no free place it is to hold.
 -- Assumes nothing.
 use Prim.Native.Nat.{ℕ, _≤_, _<_}
 use mathlib.Core.Path.{_≡_, refl, _∙_}

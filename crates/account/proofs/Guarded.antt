@@ -1,4 +1,4 @@
--- Each event in progress finds its guard: an account in order has this, and each step of a commit, an abort and a vote keeps it.
+-- Each event finds its guard: an account in order has this, and each step of a commit, an abort and a vote keeps it.
 -- Assumes nothing.
 use Prim.Native.Nat.{ℕ}
 use mathlib.Core.Path.{_≡_, refl, sym, ap, _∙_}

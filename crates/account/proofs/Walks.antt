@@ -82,7 +82,7 @@ module _ (a : Account) (n : ℕ) where
     abbrev xs : List RuleSlot
     xs = used (a .progress) (a .progressing)
 
-    -- 12: the number is not below 2 to the power u
+    -- 12: there is no outcome of that number
     pub outlook-none : 0 < reachedOf xs n (a .state) .left → Outlook′.Refused 12 ≡ outlookOf a n
     unfolding outlookOf listsOf reachedOf
     outlook-none k = rw (h, le-ltb n (2 ^ undecidedOf xs) (above n (undecidedOf xs) k))

@@ -1,4 +1,4 @@
--- Cases 1 to 9 of document 01, "On each side of the line", its look-alike on weighing, and rows for what no case has: one table, one statement.
+-- The cases close to the line (docs/REGISTER.md, 14.1 to 14.9 and the outcomes below them), and rows for what no case has: one table, one statement.
 -- Assumes nothing.
 use Prim.Native.Nat.{ℕ, suc, _^_}
 use mathlib.Core.Path.{_≡_}
@@ -27,7 +27,7 @@ pub data Finding : Type 0 where
   writes : List (Entry ℕ Event ℕ) → Finding
   refuses : ℕ → Finding
 
--- a row: the messages sent to a new account before, the question, and what document 01 says of it
+-- a row: the messages sent to a new account before, the question, and what is to be found
 pub record Row : Type 0 where
   pub before : List (Message ℕ Event)
   pub question : Question
@@ -95,7 +95,7 @@ case9 = openedWith 100 (replicate 7 (Withdraw 1))
 abbrev pub case9Full : ℕ → List (Message ℕ Event)
 case9Full held = case9 ++ requests 9 (Deposit 1 ∷ replicate held (Withdraw 1))
 
--- the program that looks right weighs two outcomes of these four
+-- all applied and none applied are two outcomes of these four
 abbrev pub lookAlike : List (Message ℕ Event)
 lookAlike = openedWith 100 (Deposit 50 ∷ Withdraw 50 ∷ [])
 
@@ -108,40 +108,40 @@ closed = case8 ++ (commit 2 100 ∷ [])
 
 unfoldable pub table : List Row
 table =
-    -- 1. New
+    -- 14.1, new
     row [] (asks (Deposit 5)) (vote reject 1)
     ∷ row [] (asks (Open 0)) (vote accept 1)
     ∷ row [] (asks (Open 1_000_000)) (vote accept 1)
     ∷ row [] (asks (Open 1_000_001)) (vote reject 1)
-    -- 2. Balance 100, nothing in progress
+    -- 14.2, balance 100
     ∷ row (opened 100) (asks (Withdraw 100)) (vote accept 1)
     ∷ row (opened 100) (asks (Withdraw 101)) (vote reject 1)
     ∷ row (opened 100) (asks (Withdraw 0)) (vote reject 1)
-    -- 3. Balance 100, Withdraw 60 undecided
+    -- 14.3, there with Withdraw 60 undecided
     ∷ row case3 (asks (Withdraw 40)) (vote accept 2)
     ∷ row case3 (asks (Withdraw 41)) (vote hold 2)
     ∷ row case3 (asks (Withdraw 101)) (vote reject 2)
-    -- 4. Balance 999,990, then with Withdraw 1 undecided
+    -- 14.4, balance 999,990, without and with Withdraw 1 undecided
     ∷ row (opened 999_990) (asks (Deposit 10)) (vote accept 1)
     ∷ row (opened 999_990) (asks (Deposit 11)) (vote reject 1)
     ∷ row (opened 999_990 ++ (request 2 100 (Withdraw 1) ∷ [])) (asks (Deposit 11)) (vote hold 2)
-    -- 5. Balance 100, Withdraw 60 and Withdraw 40 undecided
+    -- 14.5, balance 100 with Withdraw 60 and Withdraw 40 undecided
     ∷ row case5 outlook (outcomesAre (100 ∷ 40 ∷ 60 ∷ 0 ∷ []) (0 ∷ 1 ∷ 1 ∷ 2 ∷ []))
     ∷ row case5 (asks (Withdraw 1)) (vote hold 4)
     ∷ row case5 (asks (Deposit 1)) (vote accept 4)
-    -- 6. Case 5, commit of the 40; then abort of the 60
+    -- 14.6, the same: the 40 is committed, then the 60 aborted
     ∷ row case5 (sends (commit 3 100)) (writes (noted 3 100 ∷ []))
     ∷ row case6 outlook (outcomesAre (60 ∷ 0 ∷ []) (0 ∷ 1 ∷ []))
     ∷ row case6 (sends (abort 2 100)) (writes (dropped 2 100 (Withdraw 60) ∷ applied 3 100 (Withdraw 40) 60 ∷ []))
     ∷ row (case6 ++ (abort 2 100 ∷ [])) outlook (outcomesAre (60 ∷ []) (0 ∷ []))
-    -- 7. Open 10 undecided
+    -- 14.7, new with Open 10 undecided
     ∷ row case7 (asks (Open 1)) (vote hold 2)
     ∷ row case7 (asks (Withdraw 5)) (vote hold 2)
     ∷ row case7 (asks (Withdraw 11)) (vote reject 2)
-    -- 8. Balance 100, Close undecided
+    -- 14.8, balance 100 with Close undecided
     ∷ row case8 (asks (Withdraw 101)) (vote reject 2)
     ∷ row case8 (asks (Deposit 1)) (vote hold 2)
-    -- 9. Seven Withdraw 1 undecided on 100
+    -- 14.9, balance 100 with seven Withdraw 1 undecided
     ∷ row case9 (asks (Deposit 1)) (vote accept 128)
     ∷ row (case9Full 0) (asks (Withdraw 1)) (vote hold 0)
     ∷ row (case9Full 7) (asks (Withdraw 1)) (vote hold 0)

@@ -1,4 +1,4 @@
--- What the steps of `in_order` answer, each a part of a clause of "An account is in order if .." (document 01, "Weighing a request").
+-- What the steps of `in_order` answer, each a part of a clause (docs/REGISTER.md, 6).
 -- Assumes nothing.
 use mathlib.Core.Bool.{Bool, true, false, _&&_, _||_, not}
 use mathlib.Core.List.{List, [], _∷_}

@@ -1,5 +1,5 @@
--- The outcomes of the events in progress by their ends (document 01, "Weighing a request"): guards go by the life and by a balance that is high or low enough,
--- so that three outcomes answer for all of them, as long as each event finds its guard true in every outcome of those before it.
+-- The outcomes of the events in progress by their ends (docs/REGISTER.md, 4.5): guards go by the life and by a balance that is high or low enough,
+-- so that three outcomes answer for all of them, as long as the guard of each event is true in all outcomes of the older ones (6.5).
 -- Assumes nothing.
 use Prim.Native.Nat.{ℕ, _+_, _<_}
 use mathlib.Core.Path.{_≡_}
@@ -39,7 +39,7 @@ everyEnd e x = guardOf e (x .lowest) && guardOf e (x .highest) && guardOf e (x .
 abbrev pub someEnd : Event → Ends → Bool
 someEnd e x = guardOf e (x .lowest) || guardOf e (x .highest) || guardOf e (x .turned)
 
--- "a committed one is always applied",
+-- a committed event takes effect in all outcomes (4.3),
 abbrev pub endsAfter : Ends → Event → Ends
 endsAfter x e = ends (effectOf e (x .lowest)) (effectOf e (x .highest)) (effectOf e (x .turned)) (x .outcomes)
 
@@ -64,7 +64,7 @@ pub record Spreads (s : State) (xs : List RuleSlot) (r : Spread) : Type 0 where
   pub guards : r .guarded ≡ guarded panel s [] xs
   pub answers : r .guarded ≡ true → Answering s xs (r .ends)
 
--- a decision on a request behind those held, with so many events in progress: to accept only where a place is free; and the rule's, where each event in progress finds its guard
+-- a decision on a request behind those held, with so many events in progress: to accept only where a place is free; and the rule's, where each of these events finds its guard
 pub record Decides (requests : List RuleSlot) (e : Event) (s : State) (xs : List RuleSlot) (progressing : ℕ) (r : Weighing) : Type 0 where
   pub free : isAccept (r .verdict) ≡ true → progressing < room
   pub decided : guarded panel s [] xs ≡ true → weighingOf r ≡ decideBehind panel requests e s xs

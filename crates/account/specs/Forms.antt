@@ -1,5 +1,5 @@
 -- The forms in which an account and its entries are kept, literally: a place and the rule's slot, an account and its lists, an entry of each kind, the entries of a call,
--- what is said of each answer; and that nothing is lost from one form to the other (document 01, "An account" and "Bytes").
+-- what is said of each answer; and that nothing is lost from one form to the other (docs/REGISTER.md, 2 and 9).
 -- Assumes nothing.
 use Prim.Native.Nat.{ℕ, _-_, _≤_}
 use mathlib.Core.Path.{_≡_}

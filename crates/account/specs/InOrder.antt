@@ -1,4 +1,4 @@
--- An account in order, neither weaker nor stronger than its sentence (document 01, "An account is in order if .."): the test is true exactly if each clause holds,
+-- An account in order, neither weaker nor stronger than its clauses (docs/REGISTER.md, 6): the test is true exactly if each of them holds,
 -- said of the account's own places, in plain numbers and by the outcomes' numbers; and what breaks one clause, whatever the others say, is not in order.
 -- Assumes nothing.
 use Prim.Native.Nat.{ℕ, _≤_, _<_, _^_}
@@ -46,31 +46,31 @@ abbrev pub GuardSomewhere : State → List Slot → Event → Bool → Type 0
 GuardSomewhere s xs e b = (n : ℕ) × (n < many xs) × (panel .guard e (after s xs n) ≡ b)
 
 pub record InOrder (a : Account) : Type 0 where
-  -- the counts
+  -- the counts (6.1)
   pub progressing : a .progressing ≤ 8
   pub holding : a .holding ≤ 8
-  -- and the balance within their limits,
+  -- and the balance within their limits (6.1),
   pub balance : a .state .balance ≤ 1_000_000
-  -- no transaction at two used places, in progress or held,
+  -- no transaction at two used places, in progress or held (6.4),
   pub differ :
       (before between behind : List Slot) (x y : Slot)
       → events a ++ requests a ≡ before ++ (x ∷ (between ++ (y ∷ behind)))
       → x .transaction ≡ y .transaction → ⊥
-  -- nothing left in an unused place,
+  -- nothing left in an unused place (6.3),
   pub blanks : (before behind : List Slot) (x : Slot) → unused a ≡ before ++ (x ∷ behind) → x ≡ record { transaction = 0; second = 0; event = Open 0; decision = Undecided }
   pub blanksHeld : (before behind : List Slot) (x : Slot) → unusedHeld a ≡ before ++ (x ∷ behind) → x ≡ record { transaction = 0; second = 0; event = Open 0; decision = Undecided }
-  -- no balance unless the account is opened,
+  -- no balance unless the account is opened (6.2),
   pub empty : (a .state .life ≡ Opened → ⊥) → a .state .balance ≡ 0
-  -- the guard of an event in progress true, whatever becomes of the older ones,
+  -- the guard of an event in progress true, whatever becomes of the older ones (6.5),
   pub guards :
       (before behind : List Slot) (x : Slot)
       → events a ≡ before ++ (x ∷ behind)
       → (n : ℕ) → n < many before → panel .guard (x .event) (after (a .state) before n) ≡ true
-  -- the oldest event undecided,
+  -- the oldest event undecided (6.6),
   pub oldest : (behind : List Slot) (x : Slot) → events a ≡ x ∷ behind → x .decision ≡ Undecided
-  -- no decision on a held request,
+  -- no decision on a held request (6.4),
   pub undecidedHeld : (before behind : List Slot) (x : Slot) → requests a ≡ before ++ (x ∷ behind) → x .decision ≡ Undecided
-  -- and the oldest held request to stay held: 8 events are in progress, or its guard is true in some outcome and false in some other
+  -- and the oldest held request to stay held: 8 events are in progress, or its guard is true in some outcome and false in some other (6.7)
   pub stays :
       (behind : List Slot) (x : Slot)
       → requests a ≡ x ∷ behind

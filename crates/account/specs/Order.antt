@@ -1,4 +1,4 @@
--- An account in order (document 01, "Weighing a request", its last sentence).
+-- An account in order (docs/REGISTER.md, 6).
 -- Assumes nothing.
 use mathlib.Core.Bool.{Bool, true, false, _&&_}
 use lib.Dec.{leb, eqb}
@@ -24,11 +24,11 @@ isOpenZero (Withdraw a) = false
 isOpenZero (Deposit a) = false
 isOpenZero Close = false
 
--- whether a place is the blank
+-- whether a place is the blank (2.5)
 abbrev pub isBlank : Slot → Bool
 isBlank x = eqb (x .transaction) 0 && eqb (x .second) 0 && isOpenZero (x .event) && isUndecided (x .decision)
 
--- "its counts .. are within limits", "blanks are blank", and every clause that the rule has on the account's lists
+-- neither count too high (6.1), nothing but the blank in unused places (6.3), and every clause that the rule has on the account's lists
 unfoldable pub orderOf : Account → Bool
 orderOf a =
     leb (a .progressing) room && leb (a .holding) bench

@@ -1,4 +1,4 @@
--- Accounts in order, and for each clause accounts that break it alone: one table of literal accounts, one statement (document 01, "An account is in order if ..").
+-- Accounts in order, and for each clause accounts that break it alone: one table of literal accounts, one statement (docs/REGISTER.md, 6).
 -- Assumes nothing.
 use Prim.Native.Nat.{ℕ, zero, suc, _+_, _-_}
 use mathlib.Core.Path.{_≡_}
@@ -73,28 +73,28 @@ row a b = record { account = a; ordered = b }
 
 unfoldable pub table : List Row
 table =
-    -- in order: idle, and with several in progress and held; nothing is asked of a held request behind the oldest
+    -- in order: idle, and with several in progress and held; nothing is asked of a held request behind the oldest (6.8)
     row (accountWith New 0 [] []) true
     ∷ row (accountWith Closed 0 [] []) true
     ∷ row (accountWith Opened 1_000_000 [] []) true
     ∷ row (hundred (undecided 2 (Withdraw 60) ∷ committed 3 (Withdraw 40) ∷ []) (undecided 4 (Withdraw 60) ∷ undecided 5 (Withdraw 0) ∷ [])) true
     ∷ row (accountWith New 0 (undecided 2 (Open 10) ∷ []) (undecided 3 (Withdraw 5) ∷ [])) true
     ∷ row (hundred (undecided 2 Close ∷ []) (undecided 3 (Deposit 1) ∷ [])) true
-    -- with no place free a request stays held that would be accepted, and one that would be rejected
+    -- with no place free a request stays held that would be accepted, and one that would be rejected (6.7)
     ∷ row (hundred (withdrawals 1 8) (withdrawals 9 8)) true
     ∷ row (hundred (withdrawals 1 8) (undecided 9 (Withdraw 101) ∷ [])) true
-    -- counts
+    -- counts (6.1)
     ∷ row (counted 1 0 (hundred (withdrawals 1 8) (withdrawals 9 8))) false
     ∷ row (counted 0 1 (hundred (withdrawals 1 8) (withdrawals 9 8))) false
-    -- balance
+    -- balance (6.1 and 6.2)
     ∷ row (accountWith Opened 1_000_001 [] []) false
     ∷ row (accountWith New 1 [] []) false
     ∷ row (accountWith Closed 1 [] []) false
-    -- transactions
+    -- transactions (6.4)
     ∷ row (hundred (undecided 2 (Withdraw 1) ∷ undecided 3 (Withdraw 1) ∷ undecided 2 (Withdraw 1) ∷ []) []) false
     ∷ row (hundred (undecided 2 (Withdraw 60) ∷ []) (undecided 3 (Withdraw 60) ∷ undecided 2 (Withdraw 60) ∷ [])) false
     ∷ row (hundred (undecided 2 (Withdraw 60) ∷ []) (undecided 3 (Withdraw 60) ∷ undecided 3 (Withdraw 60) ∷ [])) false
-    -- blanks, by each field, in progress and held
+    -- blanks, by each field, in progress and held (6.3)
     ∷ row (leftBehind unusedPlace unusedPlace) true
     ∷ row (leftBehind (slot 1 0 (Open 0) Undecided) unusedPlace) false
     ∷ row (leftBehind (slot 0 1 (Open 0) Undecided) unusedPlace) false
@@ -107,15 +107,15 @@ table =
     ∷ row (leftBehind unusedPlace (slot 0 1 (Open 0) Undecided)) false
     ∷ row (leftBehind unusedPlace (slot 0 0 (Open 1) Undecided)) false
     ∷ row (leftBehind unusedPlace (slot 0 0 (Open 0) Committed)) false
-    -- a held request has no decision
+    -- a held request has no decision (6.4)
     ∷ row (hundred (undecided 2 (Withdraw 60) ∷ []) (undecided 3 (Withdraw 60) ∷ committed 4 (Withdraw 60) ∷ [])) false
-    -- guards: in one outcome of four it fails; where the first is not applied it holds
+    -- guards (6.5): in one outcome of four it fails; where the first is not applied it holds
     ∷ row (hundred (undecided 2 (Withdraw 60) ∷ undecided 3 (Withdraw 20) ∷ undecided 4 (Withdraw 21) ∷ []) []) false
     ∷ row (hundred (undecided 2 (Withdraw 60) ∷ undecided 3 (Withdraw 20) ∷ undecided 4 (Withdraw 20) ∷ []) []) true
     ∷ row (hundred (undecided 2 (Withdraw 101) ∷ []) []) false
-    -- the oldest event
+    -- the oldest event (6.6)
     ∷ row (hundred (committed 2 (Withdraw 60) ∷ undecided 3 (Withdraw 40) ∷ []) []) false
-    -- the oldest held request: accepted, held, rejected
+    -- the oldest held request (6.7): accepted, held, rejected
     ∷ row (hundred (undecided 2 (Withdraw 60) ∷ []) (undecided 3 (Withdraw 40) ∷ [])) false
     ∷ row (hundred (undecided 2 (Withdraw 60) ∷ []) (undecided 3 (Withdraw 41) ∷ [])) true
     ∷ row (hundred (undecided 2 (Withdraw 60) ∷ []) (undecided 3 (Withdraw 101) ∷ [])) false

@@ -1,4 +1,4 @@
--- The first panel (document 01, "An account"): the limits, the guard and the effect of each event, and the rule that they make.
+-- The first panel (docs/REGISTER.md, 2 and 3): the limits, the guard and the effect of each event, and the rule that they make.
 -- Assumes nothing.
 use Prim.Native.Nat.{ℕ, _+_, _-_}
 use mathlib.Core.Bool.{Bool, true, false, cond, _&&_}
@@ -10,11 +10,11 @@ use Rattle.account.specs.declared.Life.{Life}
 use Rattle.account.specs.declared.Life.the-variants.{New, Opened, Closed}
 use Rattle.account.specs.declared.State.{State}
 
--- "A balance is 0 to 1,000,000 steps."
+-- the highest balance (2.1)
 abbrev pub limit : ℕ
 limit = 1_000_000
 
--- the places of a row, of events in progress and of requests held
+-- the places of a row, of events in progress and of requests held (2.3)
 abbrev pub rowPlaces : ℕ
 rowPlaces = 8
 
@@ -35,14 +35,14 @@ isOpened New = false
 isOpened Opened = true
 isOpened Closed = false
 
--- the table's guards
+-- the table's guards (3.1)
 abbrev pub guardOf : Event → State → Bool
 guardOf (Open a) s = isNew (s .life) && leb a limit
 guardOf (Withdraw a) s = isOpened (s .life) && leb 1 a && leb a (s .balance)
 guardOf (Deposit a) s = isOpened (s .life) && leb 1 a && leb (s .balance + a) limit
 guardOf Close s = isOpened (s .life)
 
--- the table's effects
+-- the table's effects (3.1)
 abbrev pub tableEffect : Event → State → State
 tableEffect (Open a) s = record { life = Opened; balance = a }
 tableEffect (Withdraw a) s = record { life = s .life; balance = s .balance - a }
@@ -53,7 +53,7 @@ tableEffect Close s = record { life = Closed; balance = 0 }
 unfoldable pub effectOf : Event → State → State
 effectOf e s = cond (guardOf e s) (tableEffect e s) s
 
--- "A balance is 0 to 1,000,000 steps", and "a new or closed account has balance 0"
+-- the balance within its limit, and none unless the account is opened (2.1)
 abbrev pub stateFits : State → Bool
 stateFits s = leb (s .balance) limit && cond (isOpened (s .life)) true (eqb (s .balance) 0)
 

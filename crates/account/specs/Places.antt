@@ -1,4 +1,4 @@
--- An account's places and its lists: the account of document 01 has 8 places in progress and 8 held, of which the first few are used; the rule's account has lists.
+-- An account's places and its lists: an account has eight places in progress and eight held, of which the first few are used; the rule's account has lists (docs/REGISTER.md, 2.3 to 2.5).
 -- Assumes nothing.
 use Prim.Native.Nat.{ℕ, _-_}
 use mathlib.Core.List.{List, _++_, map}
@@ -36,7 +36,7 @@ slotOf x = rule.slot (x .transaction) (x .second) (x .event) (decisionOf (x .dec
 abbrev pub placeOf : RuleSlot → Slot
 placeOf (rule.slot t g e d) = record { transaction = t; second = g; event = e; decision = decisionIn d }
 
--- "Unused places are blank."
+-- what stands in an unused place (2.5)
 abbrev pub blank : Slot
 blank = record { transaction = 0; second = 0; event = Open 0; decision = Undecided }
 

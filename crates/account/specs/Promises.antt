@@ -1,5 +1,5 @@
 -- What the public calls of an account promise, through what is said of their answers: which number is given, as the first test that holds of a list on the account's own places;
--- that a refusal changes nothing; what a call that is taken gives (document 01, "Numbers given when a call is not taken").
+-- that a refusal changes nothing; what a call that is taken gives (docs/REGISTER.md, 10.1, 11.1 and 11.2).
 -- Assumes nothing.
 use Prim.Native.Nat.{ℕ, _^_}
 use mathlib.Core.Path.{_≡_}
@@ -35,7 +35,7 @@ pub record QuestionAnswered (a : Account) (n : ℕ) : Type 0 where
   -- a refusal tells nothing more;
   pub nothing : (number : ℕ) → toldOf (outlookOf a n) .refusal ≡ some number
       → toldOf (outlookOf a n) ≡ record { refusal = some number; state = none; applied = 0 }
-  -- else it tells the state in that outcome, by the table's effects and the bits of the number, and how many undecided events it applies
+  -- else it tells the state in that outcome, by the table's effects and the bits of the number, and how many of these bits are 1 (11.2)
   pub told : toldOf (outlookOf a n) .refusal ≡ none
       → toldOf (outlookOf a n) ≡ record { refusal = none; state = some (chosenState tablePanel (listsOf a .progress) (bit n) (a .state)); applied = ones n }
 

@@ -1,4 +1,4 @@
--- The way of the outcome question through the events in progress (document 01, "Weighing a request"): the state, and what is left of the outcome's number.
+-- The way of the outcome question through the events in progress (docs/REGISTER.md, 4.3): the state, and what is left of the outcome's number.
 -- Assumes nothing.
 use Prim.Native.Nat.{ℕ, _/_, _%_, _^_}
 use mathlib.Core.Bool.{cond}
@@ -15,13 +15,13 @@ use Rattle.account.specs.Order.{isUndecided}
 abbrev pub reached : State → ℕ → Reached
 reached s n = record { state = s; left = n }
 
--- one event further: "a committed one is always applied, an undecided one as its bit says"
+-- one event further; an undecided one takes the lowest bit off the number
 unfoldable pub followed : Reached → Slot → Reached
 followed r x =
     cond (isUndecided (x .decision))
     (cond (eqb (r .left % 2) 1) (reached (effectOf (x .event) (r .state)) (r .left / 2)) (reached (r .state) (r .left / 2)))
     (reached (effectOf (x .event) (r .state)) (r .left))
 
--- past all of them: the state in that outcome, and the number without the bits of the undecided events
+-- past all of them: the state in the outcome, and the number without the bits of the undecided events
 unfoldable pub reachedOf : List RuleSlot → ℕ → State → Reached
 reachedOf xs n s = reached (outcome panel xs n s) (n / 2 ^ undecidedOf xs)

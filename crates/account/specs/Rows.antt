@@ -1,4 +1,4 @@
--- A row of an account's places and its list, as the account's own helpers have it: what they are to give is said on the list.
+-- A row of an account's places and its list, as the account's own helpers have it: what they are to give is said on the list (docs/REGISTER.md, 2.3).
 -- Assumes nothing.
 use Prim.Native.Nat.{ℕ, _+_, _≤_}
 use mathlib.Core.Path.{_≡_}

@@ -1,5 +1,5 @@
 -- What request, commit and abort give, and what the outcome question answers, for every account whatever its places hold
--- (document 01, "Weighing a request" and "Numbers given when a call is not taken").
+-- (docs/REGISTER.md, 4, 5, 10.1 and 11.2).
 -- Assumes nothing.
 use Prim.Native.Nat.{ℕ, _+_, _-_, _^_}
 use mathlib.Core.Bool.{cond}
@@ -30,7 +30,7 @@ use Rattle.account.specs.Order.{orderOf}
 abbrev pub RuleEntry : Type 0
 RuleEntry = rule.Entry ℕ Event ℕ
 
--- what document 01 says of a step's answer: the number of its refusal, if it is one
+-- what is said of a step's answer: the number of its refusal, if it is one (10.1)
 abbrev pub given : Answer → Option ℕ
 given (Answer′.Refused n) = some n
 given Answer′.Taken = none
@@ -73,7 +73,7 @@ stepOf a m =
     (calledBy a (rule-call.call panel (listsOf a) m .account) (rule-call.call panel (listsOf a) m .answer))
     (refusedBy a 5)
 
--- what document 01 says of the outcome question's answer: the number of its refusal, if it is one, or the state and how many undecided events it applies
+-- what is said of the outcome question's answer: the number of its refusal, if it is one, or the state and the number of undecided events applied in it (11.2)
 pub record Told′ : Type 0 where
   pub refusal : Option ℕ
   pub state : Option State
@@ -83,7 +83,7 @@ abbrev pub toldOf : Outlook → Told′
 toldOf (Outlook′.Refused n) = record { refusal = some n; state = none; applied = 0 }
 toldOf (Outlook′.State s n) = record { refusal = none; state = some s; applied = n }
 
--- the outcome question: 5, then 12, "outcome number not below 2 to the power u"; else "the state in that outcome and how many undecided events it applies"
+-- the outcome question: 5, then 12 where there is no outcome of that number, else the answer (10.1, 11.2)
 unfoldable pub outlookOf : Account → ℕ → Outlook
 outlookOf a n =
     cond (orderOf a)

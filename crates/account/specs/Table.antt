@@ -1,4 +1,4 @@
--- The table of events (document 01, "An account") row by row, over all amounts and balances and every life, in plain numbers: each guard exactly if, each effect as an equation;
+-- The table of events (docs/REGISTER.md, 3.1) row by row, over all amounts and balances and every life, in plain numbers: each guard exactly if, each effect as an equation;
 -- then what else the panel's rule has; and that the outcomes of an account in order are those of the table's own effects.
 -- Assumes nothing.
 use Prim.Native.Nat.{ℕ, _+_, _-_, _≤_}

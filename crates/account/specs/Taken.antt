@@ -1,4 +1,4 @@
--- A step that is taken, as the account's own helpers have it: the rule's step in places, and the entries that it writes, one after the other.
+-- A step that is taken, as the account's own helpers have it: the rule's step in places, and the entries that it writes, one after the other (docs/REGISTER.md, 9.4).
 -- Assumes nothing.
 use Prim.Native.Nat.{ℕ, _+_, _≤_}
 use mathlib.Core.Path.{_≡_}
@@ -42,7 +42,7 @@ pub record Further (entries : Entries) (entry : Entry) (r : Entries) : Type 0 wh
   pub count : r .count ≡ entries .count + 1
   pub list : (xs : List RuleEntry) (x : RuleEntry) → entries ≡ entriesOf xs → entry ≡ entryOf x → r ≡ entriesOf (xs ++ (x ∷ []))
 
--- the events in progress after a vote on a request: "accepted or rejected, and the next one follows"
+-- the events in progress after a vote on a request
 abbrev pub joinedBy : rule.Verdict → List RuleSlot → RuleSlot → List RuleSlot
 joinedBy rule.accept progress x = progress ++ (x ∷ [])
 joinedBy rule.reject progress x = progress

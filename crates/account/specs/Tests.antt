@@ -1,4 +1,4 @@
--- Refusals as a list of tests, each with its number (document 01, "Numbers given when a call is not taken"): the first that holds gives its number.
+-- Refusals as a list of tests, each with its number (docs/REGISTER.md, 10.1): the first that holds gives its number.
 -- Assumes nothing.
 use Prim.Native.Nat.{ℕ}
 use mathlib.Core.Bool.{Bool, cond}

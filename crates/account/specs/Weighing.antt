@@ -1,4 +1,4 @@
--- The weighing of the code in the rule's words (document 01, "Weighing a request").
+-- The weighing of the code in the rule's words (docs/REGISTER.md, 4.5).
 -- Assumes nothing.
 use mathlib.Core.Bool.{Bool, cond}
 use Rattle.rule.specs.Rule as rule
@@ -16,6 +16,6 @@ verdictOf Hold = rule.hold
 abbrev pub weighingOf : Weighing → rule-weigh.Weighing
 weighingOf w = record { verdict = verdictOf (w .verdict); weighed = w .weighed }
 
--- "accepted if its guard holds in every outcome, rejected if in none, held if in some only"
+-- the verdict, by whether the guard is true in every outcome and whether it is in some
 abbrev pub verdictBy : (every some : Bool) → Verdict
 verdictBy every some = cond every Accept (cond some Hold Reject)

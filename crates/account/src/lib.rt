@@ -1,4 +1,4 @@
-// The first panel: the events of an account, its state, its places, and the account itself.
+// The first panel: the events of an account, its state, its places, and the account itself (docs/REGISTER.md, 2 and 3).
 
 mod order;
 mod places;
@@ -85,7 +85,7 @@ pub struct Called {
     pub entries: Entries,
 }
 
-// What the outcome question answers: the number of its refusal, or the state in that outcome and how many undecided events it applies.
+// What the outcome question answers: the number of its refusal, or the state and the number of undecided events applied in it (11.2).
 pub enum Outlook {
     Refused(u8),
     State(State, u32),

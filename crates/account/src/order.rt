@@ -1,4 +1,4 @@
-// Whether an account is in order, clause by clause.
+// Whether an account is in order, clause by clause (docs/REGISTER.md, 6).
 use crate::Account;
 use crate::Event;
 use crate::Slot;
@@ -162,7 +162,7 @@ fn without_decision(places: [Slot; Account::PLACES], count: usize) -> bool
     true
 }
 
-// Whether each event in progress finds its guard true in every outcome of those before it.
+// Whether the guard of each event in progress is true in all outcomes of the older ones (6.5).
 fn guarded(s: State, progress: [Slot; Account::PLACES], progressing: usize) -> bool
     requires { ⌜ progressing ≤ rowPlaces ⌝ }
     ensures { λ r. ⌜ r ≡ rule.guarded panel s [] (used progress progressing) ⌝ }
@@ -171,7 +171,7 @@ fn guarded(s: State, progress: [Slot; Account::PLACES], progressing: usize) -> b
     walked.guarded
 }
 
-// Whether the oldest event in progress, if any, is undecided.
+// Whether nothing is in progress, or the oldest there is undecided (6.6).
 fn oldest_undecided(progress: [Slot; Account::PLACES], progressing: usize) -> bool
     requires { ⌜ progressing ≤ rowPlaces ⌝ }
     ensures { λ r. ⌜ r ≡ rule.oldestUndecided (used progress progressing) ⌝ }
@@ -184,7 +184,7 @@ fn oldest_undecided(progress: [Slot; Account::PLACES], progressing: usize) -> bo
     is_undecided(decision)
 }
 
-// Whether the oldest request held, if any, would stay held; it is asked where the events in progress find their guards.
+// Whether nothing is held, or the oldest there would be held again (6.7); it is asked where the events in progress find their guards.
 fn oldest_stays_held(
     s: State,
     progress: [Slot; Account::PLACES],

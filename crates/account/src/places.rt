@@ -1,4 +1,4 @@
-// The places of an account, as rows: a transaction is looked for, marked, taken out; a place is added; the oldest are left out.
+// The places of an account, as rows: a transaction is looked for, marked, taken out; a place is added; the oldest are left out (docs/REGISTER.md, 2.3 and 5.5).
 use crate::Account;
 use crate::BLANK;
 use crate::Decision;

@@ -1,4 +1,4 @@
-// The outcome question of one account.
+// The outcome question of one account (docs/REGISTER.md, 11.2).
 use crate::Account;
 use crate::Outlook;
 use crate::Slot;
@@ -19,7 +19,7 @@ struct Reached {
 }
 
 impl Account {
-    // The state in the outcome of this number, and how many undecided events it applies; 5, then 12, where it is refused.
+    // The state in the outcome of this number, and the number of undecided events applied in it; 5, then 12, where it is refused.
     pub fn outlook(self, number: u32) -> Outlook
         ensures { λ r. ⌜ r ≡ outlookOf self number ⌝ }
     {
@@ -57,7 +57,7 @@ fn outcome(s: State, progress: [Slot; Account::PLACES], progressing: usize, numb
     reached
 }
 
-// One event further: a committed one is applied, an undecided one as the lowest bit left says.
+// One event further (4.3); an undecided one takes the lowest bit off the number.
 fn follow(reached: Reached, place: Slot) -> Reached
     ensures { λ r. ⌜ r ≡ followed reached place ⌝ }
 {

@@ -1,4 +1,4 @@
-// The steps of an account: request, commit and abort, and what follows every commit and abort.
+// The steps of an account: request, commit and abort, and what follows every commit and abort (docs/REGISTER.md, 4.6 and 5).
 use crate::Account;
 use crate::Answer;
 use crate::Called;

@@ -1,4 +1,4 @@
-// The guard and the effect of each event, and the weighing of a request over the outcomes of the events in progress.
+// The guard and the effect of each event, and the weighing of a request over the outcomes of the events in progress (docs/REGISTER.md, 3 and 4).
 use crate::Account;
 use crate::Decision;
 use crate::Event;
@@ -36,7 +36,7 @@ pub(crate) struct Ends {
     pub(crate) outcomes: u32,
 }
 
-// The ends of the outcomes of the events in progress, and whether each event finds its guard true in every outcome of those before it; where one does not, the ends say nothing.
+// The ends of the outcomes of the events in progress, and whether the guard of each event is true in all outcomes of the older ones (6.5); where one is not, the ends say nothing.
 pub(crate) struct Spread {
     pub(crate) guarded: bool,
     pub(crate) ends: Ends,
@@ -140,7 +140,7 @@ impl Ends {
     }
 }
 
-// The decision on a request as if nothing were held: held with 0 where no place is free in progress, else weighed at the ends of the outcomes.
+// The decision on a request with nothing held before it: held with 0 where no place is free in progress (4.4), else weighed at the ends of the outcomes.
 pub(crate) fn decide(
     progress: [Slot; Account::PLACES],
     progressing: usize,
@@ -165,7 +165,7 @@ pub(crate) fn decide(
     }
 }
 
-// The verdict: accepted if the guard holds in every outcome, rejected if in none, held if in some only.
+// The verdict, by whether the guard is true in every outcome and whether it is in some (4.5).
 fn verdict_of(every: bool, some: bool) -> Verdict
     ensures { λ r. ⌜ r ≡ verdictBy every some ⌝ }
 {
@@ -205,7 +205,7 @@ pub(crate) fn walk(s: State, progress: [Slot; Account::PLACES], progressing: usi
     }
 }
 
-// Whether an event in progress is undecided.
+// Whether the decision has not come yet.
 pub(crate) fn is_undecided(decision: Decision) -> bool
     ensures { λ r. ⌜ r ≡ isUndecided decision ⌝ }
 {

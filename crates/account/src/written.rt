@@ -1,4 +1,4 @@
-// The entries of one call: each as it is made, written one after the other.
+// The entries of one call: each as it is made, written one after the other (docs/REGISTER.md, 9.4).
 use crate::Entries;
 use crate::Entry;
 use crate::Slot;

@@ -255,6 +255,6 @@ module _ {G S E B : Type 0} (R : Rule S E B) where
         noOther = ends-written (allEntries seen) ∙ all-ended anyEnd seen owned ∙ sym (ends-owned (linesFrom [] seen) (past-ends (h .tied .past)));
       }
 
-  -- so for every list of messages to a new account, refused ones included, at any room of at least 1.
+  -- so for every list of messages to a new account, taken or refused, at any room of at least 1.
   pub demand3 : 1 ≤ R .room → (ms : List (Message G E)) → Demand3After R ms
   demand3 roomy ms = let k = history-kept R ms in kept-demand3 roomy (reached R (newAccount R G) ms) (history R (newAccount R G) ms) (k .0) (k .1)

@@ -1,5 +1,5 @@
--- What every step of an account keeps: the lines tied to the account, its events safe, its transactions apart, its counts within limits; and at rest, that its oldest event is
--- undecided and its oldest held request stays held. Each message that is taken leads from one account at rest to the next, and every entry on the way has its owner.
+-- What every step of an account keeps: the lines tied to the account, its events safe, its transactions apart, its counts within limits; and at rest, that the oldest event is
+-- undecided and the oldest held request stays held. Each message that is taken leads from one account at rest to the next, and every entry on the way has its owner.
 -- Settling goes by induction on the events in progress, draining by induction on the requests held.
 -- Assumes nothing.
 use Prim.Native.Nat.{ℕ, _+_, _≤_, _<_}
@@ -73,7 +73,7 @@ module _ {G S E B : Type 0} (R : Rule S E B) where
         past-owners R t (h .past)
         ∙ rw (keep-none (named t) progress (p .0), eq-eqb t t refl, keep-none (named t) held (p .1))
 
-    -- and the vote on it, as if nothing were held, is the entry's
+    -- and the vote on it, with nothing held before it, is the entry's
     oldest-vote : (v : Verdict) (n : ℕ) → Tied s progress (slot t g e undecided ∷ held) lines → decide R e s progress ≡ record { verdict = v; weighed = n }
         → Voted R lines v (fateBy v) t g e n
     oldest-vote v n h q =

@@ -1,4 +1,4 @@
--- "In order" exactly: each clause's test against its plain form, by induction on the lists; the guards through the walk down the events, the oldest held request through its verdict.
+-- In order, exactly: each clause's test against its plain form, by induction on the lists; the guards through the walk down the events, the oldest held request through its verdict.
 -- Assumes nothing.
 use Prim.Native.Nat.{ℕ, _≤_, _<_, _^_}
 use mathlib.Core.Path.{_≡_, refl, sym, _∙_, ap}

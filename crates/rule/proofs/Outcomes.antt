@@ -95,7 +95,7 @@ module _ {G S E B : Type 0} (R : Rule S E B) where
   unfolding outcomes
   total-tally f xs s = total-sum f (λ (n : ℕ). outcome R xs n s) 0 (2 ^ undecidedOf xs) ∙ sum-tally f xs s
 
-  -- "There are 2 to the power u outcomes"
+  -- there are 2^u outcomes
   pub outcomes-length : (xs : List (Slot G E)) (s : S) → length (outcomes R xs s) ≡ 2 ^ undecidedOf xs
   unfolding outcomes
   outcomes-length xs s = length-map (numbers 0 (2 ^ undecidedOf xs)) (λ (n : ℕ). outcome R xs n s) ∙ length-numbers 0 (2 ^ undecidedOf xs)

@@ -1,4 +1,4 @@
--- Every list of messages to a new account, refused ones included, leads to an account at rest, every entry on the way has its owner, and every message that is taken its own entries:
+-- Every list of messages to a new account, taken or refused, leads to an account at rest, every entry on the way has its owner, and every message that is taken its own entries:
 -- by induction on the messages.
 -- Assumes nothing.
 use Prim.Native.Nat.{ℕ}

@@ -1,4 +1,4 @@
--- "Given exactly if", both ways: the refusals are chains of tests, each with its number, and two laws of a chain serve them all: a number that stands first is given exactly
+-- When each number is given, both ways: the refusals are chains of tests, each with its number, and two laws of a chain serve them all: a number that stands first is given exactly
 -- if its test is true, and one that stands later exactly if that test is not true and the rest of the chain gives it.
 -- Assumes nothing.
 use Prim.Native.Nat.{ℕ}

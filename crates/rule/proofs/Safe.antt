@@ -1,4 +1,4 @@
--- "finds its guard true in every outcome of those before it", as a walk down the events: the guard at the head, then on with the effect,
+-- Events whose guards are true in all outcomes of the older ones, as a walk down the events: the guard at the head, then on with the effect,
 -- or, at an undecided event, on both ways. Each step of an account keeps it, by induction on the events; one law ties it to the numbered list.
 -- Assumes nothing.
 use Prim.Native.Nat.{ℕ, zero, _+_, _/_, _%_}
@@ -80,7 +80,7 @@ module _ {G S E B : Type 0} (R : Rule S E B) where
   safe-every xs t g e d ys s h =
       way-every R (R .guard e) xs s (safe-split xs t g e d ys s h)
 
-  -- the clause of "in order" says the same
+  -- the clause of an account in order on guards says the same
   pub safe-guarded : (s : S) (before rest : List (Slot G E)) → Safe (before ++ rest) s → guarded R s before rest ≡ true
   safe-guarded s before [] h = refl
   safe-guarded s before (slot t g e d ∷ rest) h =

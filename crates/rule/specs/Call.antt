@@ -1,4 +1,4 @@
--- The refusals 6 to 11 in their order, and the call (document 01, "Numbers given when a call is not taken").
+-- The refusals 6 to 11 in their order, and the call (docs/REGISTER.md, 10.1).
 -- Assumes nothing.
 use Prim.Native.Nat.{ℕ}
 use mathlib.Core.Bool.{Bool, false, cond, _||_, not}
@@ -16,8 +16,8 @@ namedCommitted u (slot t g e undecided) = false
 namedCommitted u (slot t g e committed) = eqb u t
 
 module _ {G S E B : Type 0} (R : Rule S E B) where
-  -- 6: "request: its transaction is in progress or held on that account"; 7: "request: 8 are held"; 6 before 7.
-  -- 8: "commit, abort: transaction neither in progress nor held"; 9: "commit of a held request"; 10: "commit of a committed event"; 11: "abort of a committed event".
+  -- a request: 6 where the account has its transaction already, then 7 where no place to hold is left;
+  -- a commit or an abort: 8 where the account does not have its transaction; then a commit 9 if that is held and 10 if it is committed, an abort 11 if it is committed
   abbrev pub refusal : Account G S E → Message G E → Option ℕ
   refusal a (request t g e) =
       cond (some-of (named t) (a .progress) || some-of (named t) (a .held)) (some 6)
@@ -54,7 +54,7 @@ module _ {G S E B : Type 0} (R : Rule S E B) where
   unfoldable pub call : Account G S E → Message G E → Called G S E B
   call a m = callBy (refusal R a m) a (step R a m)
 
-  -- the account after a list of messages, refused ones included
+  -- the account after a list of messages, taken or refused
   abbrev pub reached : Account G S E → List (Message G E) → Account G S E
   reached a [] = a
   reached a (m ∷ ms) = reached (call a m .account) ms

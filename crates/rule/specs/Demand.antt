@@ -1,4 +1,4 @@
--- Demand 3, over what can be seen of an account: the messages sent to it and the entries written.
+-- Demand 3, over what can be seen of an account: the messages sent to it and the entries written (docs/REGISTER.md, 13.3).
 -- Assumes nothing.
 use Prim.Native.Nat.{ℕ, _+_, _<_, _^_}
 use mathlib.Core.Path.{_≡_}
@@ -16,7 +16,7 @@ use Rattle.rule.specs.History.{Fate, waiting, votedNo, ongoing, wasAppli
 use Rattle.rule.specs.Vote.{Vote}
 use Rattle.rule.specs.Written.{Writes}
 
--- "exactly one entry of its end" for what has ended, none for anything else
+-- how many entries of its end a request of that fate has to have (13.3 d)
 abbrev pub endsOf : Fate → ℕ
 endsOf waiting = 0
 endsOf votedNo = 0
@@ -43,7 +43,7 @@ module _ {G E : Type 0} where
   onHold (line t g e wasApplied k ∷ lines) = onHold lines
   onHold (line t g e wasDropped k ∷ lines) = onHold lines
 
-  -- "its accepted and committed events that have no undecided event before them", in arrival order
+  -- the events of the serial run: accepted and committed, up to the first that is undecided (13.3 a)
   abbrev pub serial : List (Line G E) → List E
   serial [] = []
   serial (line t g e waiting k ∷ lines) = serial lines
@@ -115,11 +115,11 @@ module _ {G S E B : Type 0} (R : Rule S E B) where
     -- the account has in progress and held what the lines say, in their order
     pub progress : a .progress ≡ inProgress lines
     pub held : a .held ≡ onHold lines
-    -- "each account's applied state is the serial run, in arrival order, of its accepted and committed events that have no undecided event before them"
+    -- the applied state is the one that the serial run leads to (13.3 a),
     pub state : a .state ≡ run R (serial lines) (R .fresh)
-    -- "Every guard holds at its place in that run."
+    -- in which each event finds its guard true (13.3 b)
     pub guards : GuardsHold R (serial lines) (R .fresh)
-    -- an event in progress finds its guard true whichever of the undecided ones before it come to be applied,
+    -- the guard of an event in progress is true whichever of the undecided ones before it come to be applied (13.3 c),
     pub ahead :
         (before behind : List (Line G E)) (t : ℕ) (g : G) (e : E) (d : Decision) (k : ℕ)
         → lines ≡ before ++ (line t g e (ongoing d) k ∷ behind)
@@ -129,19 +129,19 @@ module _ {G S E B : Type 0} (R : Rule S E B) where
         (before behind : List (Line G E)) (chosen : ℕ → Bool)
         → lines ≡ before ++ behind
         → chosenState R (course before) chosen (R .fresh) ≡ chosenState R (inProgress before) chosen (run R (appliedEvents before) (R .fresh))
-    -- nothing passes a held request: behind one that waits there are only such as wait, or were dropped
+    -- nothing passes a held request (5.8): behind one that waits there are only such as wait, or were dropped
     pub passing :
         (before between behind : List (Line G E)) (t t′ : ℕ) (g g′ : G) (e e′ : E) (f : Fate) (k k′ : ℕ)
         → lines ≡ before ++ (line t g e waiting k ∷ (between ++ (line t′ g′ e′ f k′ ∷ behind)))
         → (f ≡ waiting) ⊎ (f ≡ wasDropped)
-    -- "Where nothing is in progress, nothing is held."
+    -- an account with no event in progress holds no request (13.3 e)
     pub idle : a .progress ≡ [] → a .held ≡ []
-    -- nothing is left to apply: the oldest event in progress is undecided
+    -- nothing is left to apply: what is oldest in progress is undecided (6.6)
     pub oldest :
         (behind : List (Slot G E)) (t : ℕ) (g : G) (e : E) (d : Decision)
         → inProgress lines ≡ slot t g e d ∷ behind
         → d ≡ undecided
-    -- and nothing to decide: the oldest held request, weighed as if nothing were held, is held
+    -- and nothing to decide: the oldest held request, decided with nothing held before it, is held again (6.7)
     pub stays :
         (behind : List (Slot G E)) (t : ℕ) (g : G) (e : E) (d : Decision)
         → onHold lines ≡ slot t g e d ∷ behind
@@ -195,7 +195,7 @@ module _ {G S E B : Type 0} (R : Rule S E B) where
     pub right : Right a (linesFrom [] seen)
     -- every entry has its owner, and every message that is taken is answered by its own entries,
     pub owned : HistoryOwned [] seen
-    -- each event that has ended has one entry of its end and no other has any, counted among the entries of all calls: whatever transaction, filing, event and end are asked for,
+    -- there is one entry for each end and no other, counted over the entries of every call (13.3 d): whatever transaction, filing, event and end are asked for,
     -- as many entries have them as lines that have so ended,
     pub ended :
         (asked : ℕ → G → E → Fate → Bool) → length (keep (endEntry asked) (allEntries seen)) ≡ length (keep (endedLine asked) (linesFrom [] seen))
@@ -205,6 +205,6 @@ module _ {G S E B : Type 0} (R : Rule S E B) where
     -- and by this: there is no entry of an end beyond these
     pub noOther : endsWritten (allEntries seen) ≡ endsOwned (linesFrom [] seen)
 
-  -- after every list of messages to a new account, refused ones included
+  -- after every list of messages to a new account, taken or refused
   abbrev pub Demand3After : List (Message G E) → Type 0
   Demand3After ms = Demand3 (reached R (newAccount R G) ms) (history R (newAccount R G) ms)

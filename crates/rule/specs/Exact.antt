@@ -1,4 +1,4 @@
--- Weighing is exact: what each verdict says of the outcomes by their numbers; and what the numbers say.
+-- Weighing is exact: what each verdict says of the outcomes by their numbers; and what the numbers say (docs/REGISTER.md, 4).
 -- Assumes nothing.
 use Prim.Native.Nat.{ℕ, zero, suc, _+_, _*_, _<_, _≤_, _^_}
 use mathlib.Core.Path.{_≡_}
@@ -23,7 +23,7 @@ pub record Choices (u : ℕ) : Type 0 where
   pub whole : (n : ℕ) → n < 2 ^ u → numberOf u (bit n) ≡ n
 
 module _ {G S E B : Type 0} (R : Rule S E B) where
-  -- the state after the events in progress, where `chosen i` says whether the i-th oldest undecided event, counted from 0, is applied
+  -- the state after the events in progress, where `chosen i` says whether that undecided event is applied which has i older undecided ones
   abbrev pub chosenState : List (Slot G E) → (ℕ → Bool) → S → S
   chosenState [] chosen s = s
   chosenState (slot t g e undecided ∷ xs) chosen s =
@@ -36,11 +36,11 @@ module _ {G S E B : Type 0} (R : Rule S E B) where
 
   -- what the list of outcomes is
   pub record Numbered (xs : List (Slot G E)) (s : S) : Type 0 where
-    -- "There are 2 to the power u outcomes"
+    -- there are 2^u of them (4.1)
     pub count : length (outcomes R xs s) ≡ 2 ^ undecidedOf xs
-    -- "Bit i of an outcome's number, lowest first, is set exactly if the i-th oldest undecided event, counted from 0, is applied."
+    -- an outcome's number chooses by its bits, the lowest for the oldest undecided event (4.2)
     pub bits : (n : ℕ) → outcome R xs n s ≡ chosenState xs (bit n) s
-    -- in the list they stand in the order of their numbers
+    -- in the list each stands at its number
     pub listed : (n : ℕ) (other : S) → n < 2 ^ undecidedOf xs → getD (outcomes R xs s) n other ≡ outcome R xs n s
     -- An undecided event, wherever it stands, is applied to the state of those before it if its place among the undecided ones is chosen, and else left out;
     pub undecidedOne :
@@ -56,7 +56,7 @@ module _ {G S E B : Type 0} (R : Rule S E B) where
     -- the count of ones is the number of undecided events applied
     pub applied : (n : ℕ) → n < 2 ^ undecidedOf xs → appliedIn xs n ≡ ones n
 
-  -- "accepted if its guard holds in every outcome, rejected if in none, held if in some only", and each exactly if
+  -- the three verdicts, each exactly if (4.5)
   pub record Exact (e : E) (xs : List (Slot G E)) (s : S) : Type 0 where
     pub accepted :
         (weigh R e (outcomes R xs s) ≡ accept)
@@ -70,11 +70,11 @@ module _ {G S E B : Type 0} (R : Rule S E B) where
 
   -- how a request is decided, whatever is in progress and held
   pub record Decided (e : E) (s : S) (progress held : List (Slot G E)) : Type 0 where
-    -- "held, with 0 outcomes weighed, if a request is already held on the account,
+    -- held unweighed behind a held request (4.4),
     pub behind : (held ≡ [] → ⊥) → decideBehind R held e s progress ≡ record { verdict = hold; weighed = 0 }
-    -- or 8 events are in progress";
+    -- and with no place free in progress (4.4);
     pub full : held ≡ [] → R .room ≤ length progress → decideBehind R held e s progress ≡ record { verdict = hold; weighed = 0 }
-    -- "otherwise" as it is weighed, with "the number of outcomes weighed, which equals 2 to the power u";
+    -- else as it is weighed, with 2^u (4.5);
     pub free : held ≡ [] → length progress < R .room → decideBehind R held e s progress ≡ record { verdict = weigh R e (outcomes R progress s); weighed = 2 ^ undecidedOf progress }
-    -- where nothing is in progress nothing is held
+    -- with no event in progress it is never held (13.3 e)
     pub idle : held ≡ [] → 1 ≤ R .room → progress ≡ [] → decideBehind R held e s progress .verdict ≡ hold → ⊥

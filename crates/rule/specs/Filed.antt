@@ -1,4 +1,4 @@
--- What is filed with an event never matters: put through any function, it comes out put through that function, and nothing else differs.
+-- What is filed with an event never matters: put through any function, it comes out put through that function, and nothing else differs (docs/REGISTER.md, 13.2).
 -- Assumes nothing.
 use mathlib.Core.Path.{_≡_}
 use mathlib.Core.List.{List, map}

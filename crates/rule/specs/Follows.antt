@@ -1,4 +1,4 @@
--- Sequences told from their end: a run of events and a sequence of messages, with one more behind them.
+-- Sequences told from their end: a run of events and a sequence of messages, with one more behind them (docs/REGISTER.md, 13.3).
 -- Assumes nothing.
 use mathlib.Core.Path.{_≡_}
 use mathlib.Core.Logic.{_↔_}

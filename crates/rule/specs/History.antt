@@ -1,6 +1,5 @@
--- What can be seen from outside: the messages sent and the entries written, told as a line for each request taken, in arrival order.
--- "events are told apart by their place in the message sequence. An applied or dropped entry belongs to the request that was in progress or held
--- under its transaction on its account when the entry was written." (document 01, "Weighing a request")
+-- What can be seen from outside: the messages sent and the entries written, told as a line for each request taken, in arrival order (docs/REGISTER.md, 5.7).
+-- A line is known by its place alone; an entry belongs to the line that has its transaction and, at the moment of writing, is in progress or held.
 -- Assumes nothing.
 use Prim.Native.Nat.{ℕ, _+_}
 use mathlib.Core.Bool.{Bool, true, false, cond, _&&_}

@@ -1,5 +1,5 @@
--- "In order" neither weaker nor stronger than its sentence: the test is true exactly if each clause holds, said by places in the lists and by the outcomes' numbers
--- (document 01, "An account is in order if .."; that blanks are blank is said where there are places).
+-- In order, neither weaker nor stronger than its clauses: the test is true exactly if each of them holds, said by places in the lists and by the outcomes' numbers
+-- (docs/REGISTER.md, 6; 6.3 is said where there are places).
 -- Assumes nothing.
 use Prim.Native.Nat.{ℕ, _≤_, _<_, _^_}
 use mathlib.Core.Path.{_≡_}
@@ -15,32 +15,32 @@ use Rattle.rule.specs.Order.{order, Sound}
 
 module _ {G S E B : Type 0} (R : Rule S E B) where
   pub record Ordered (a : Account G S E) : Type 0 where
-    -- "its counts .. are within limits",
+    -- neither too many in progress nor too many held (6.1),
     pub few : length (a .progress) ≤ R .room
     pub fewHeld : length (a .held) ≤ R .bench
-    -- its state is one of those in order,
+    -- its state is one of those in order (6.1 and 6.2),
     pub state : R .fits (a .state) ≡ true
-    -- the transactions at any two places, in progress or held, differ,
+    -- the transactions at any two places, in progress or held, differ (6.4),
     pub differ :
         (before between behind : List (Slot G E)) (t t′ : ℕ) (g g′ : G) (e e′ : E) (d d′ : Decision)
         → a .progress ++ a .held ≡ before ++ (slot t g e d ∷ (between ++ (slot t′ g′ e′ d′ ∷ behind)))
         → t ≡ t′ → ⊥
-    -- a held request has no decision,
+    -- a held request has no decision (6.4),
     pub undecidedHeld :
         (before behind : List (Slot G E)) (t : ℕ) (g : G) (e : E) (d : Decision)
         → a .held ≡ before ++ (slot t g e d ∷ behind)
         → d ≡ undecided
-    -- an event in progress has its guard true in each outcome of the events before it,
+    -- an event in progress has its guard true in each outcome of the events before it (6.5),
     pub guards :
         (before behind : List (Slot G E)) (t : ℕ) (g : G) (e : E) (d : Decision)
         → a .progress ≡ before ++ (slot t g e d ∷ behind)
         → (n : ℕ) → n < 2 ^ undecidedOf before → R .guard e (chosenState R before (bit n) (a .state)) ≡ true
-    -- "its oldest event, if any, is undecided",
+    -- what is oldest in progress is undecided (6.6),
     pub oldest :
         (behind : List (Slot G E)) (t : ℕ) (g : G) (e : E) (d : Decision)
         → a .progress ≡ slot t g e d ∷ behind
         → d ≡ undecided
-    -- and the oldest held request is one to be held: no place is free, or its guard holds in some outcome and fails in some other
+    -- and the oldest held request is one to be held: no place is free, or its guard holds in some outcome and fails in some other (6.7)
     pub stays :
         (behind : List (Slot G E)) (t : ℕ) (g : G) (e : E) (d : Decision)
         → a .held ≡ slot t g e d ∷ behind

@@ -1,4 +1,4 @@
--- An account in order, over its lists (document 01, "An account is in order if ..", clause by clause; that blanks are blank is said where there are places).
+-- An account in order, over its lists, clause by clause (docs/REGISTER.md, 6; 6.3 is said where there are places).
 -- Assumes nothing.
 use mathlib.Core.Path.{_≡_}
 use mathlib.Core.Bool.{Bool, true, false, _&&_, not}
@@ -13,18 +13,18 @@ use Rattle.rule.specs.Weigh.{decide}
 use Rattle.rule.specs.Step.{named}
 
 module _ {G E : Type 0} where
-  -- "its transaction numbers in progress and held all differ"
+  -- no two have the same transaction (6.4)
   abbrev pub apart : List (Slot G E) → Bool
   apart [] = true
   apart (slot t g e d ∷ xs) = not (some-of (named t) xs) && apart xs
 
-  -- "its oldest event, if any, is undecided"
+  -- the oldest of them, if there is one, is undecided (6.6)
   abbrev pub oldestUndecided : List (Slot G E) → Bool
   oldestUndecided [] = true
   oldestUndecided (slot t g e undecided ∷ xs) = true
   oldestUndecided (slot t g e committed ∷ xs) = false
 
-  -- a held request has no decision
+  -- a held request has no decision (6.4)
   abbrev pub withoutDecision : Slot G E → Bool
   withoutDecision (slot t g e undecided) = true
   withoutDecision (slot t g e committed) = false
@@ -35,16 +35,16 @@ staysHeld reject = false
 staysHeld hold = true
 
 module _ {G S E B : Type 0} (R : Rule S E B) where
-  -- "its counts .. are within limits"
+  -- neither too many in progress nor too many held (6.1)
   abbrev pub countsWithin : Account G S E → Bool
   countsWithin a = leb (length (a .progress)) (R .room) && leb (length (a .held)) (R .bench)
 
-  -- "each event in progress finds its guard true in every outcome of those before it"
+  -- the guard of every event is true in all outcomes of the older ones (6.5)
   abbrev pub guarded : S → (before rest : List (Slot G E)) → Bool
   guarded s before [] = true
   guarded s before (slot t g e d ∷ rest) = every (R .guard e) (outcomes R before s) && guarded s (before ++ (slot t g e d ∷ [])) rest
 
-  -- "its oldest held request, if any, would stay held"
+  -- the oldest held request, if there is one, would be held again (6.7)
   abbrev pub oldestStaysHeld : S → (progress held : List (Slot G E)) → Bool
   oldestStaysHeld s progress [] = true
   oldestStaysHeld s progress (slot t g e d ∷ held) = staysHeld (decide R e s progress .verdict)

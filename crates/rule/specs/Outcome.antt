@@ -1,4 +1,4 @@
--- The outcomes of the events in progress (document 01, "Weighing a request").
+-- The outcomes of the events in progress (docs/REGISTER.md, 4.1 to 4.3).
 -- Assumes nothing.
 use Prim.Native.Nat.{ℕ, zero, suc, _+_, _/_, _%_, _^_}
 use mathlib.Core.Bool.{Bool, cond}
@@ -7,7 +7,7 @@ use lib.Dec.{eqb}
 use Rattle.rule.specs.Lists.{numbers}
 use Rattle.rule.specs.Rule.{Rule, Slot, slot, undecided, committed}
 
--- "Let u be the number of undecided events in progress."
+-- how many of these events are undecided: the u of 4.1
 abbrev pub undecidedOf : {G E : Type 0} → List (Slot G E) → ℕ
 undecidedOf [] = zero
 undecidedOf (slot t g e undecided ∷ xs) = suc (undecidedOf xs)
@@ -19,19 +19,18 @@ appliedIn [] n = zero
 appliedIn (slot t g e undecided ∷ xs) n = n % 2 + appliedIn xs (n / 2)
 appliedIn (slot t g e committed ∷ xs) n = appliedIn xs n
 
--- "Bit i of an outcome's number, lowest first": whether it is set
+-- whether bit i of a number is 1; bit 0 is the lowest (4.2)
 abbrev pub bit : ℕ → ℕ → Bool
 bit n i = eqb (n / 2 ^ i % 2) 1
 
 module _ {G S E B : Type 0} (R : Rule S E B) where
-  -- "The state of an outcome starts from the applied state and goes through the events in progress in arrival order:
-  -- a committed one is always applied, an undecided one as its bit says."
-  -- The lowest bit is the oldest undecided event's; the rest of the number is the rest of the events'.
+  -- the state in the outcome of this number, from the applied one on, oldest event first (4.3);
+  -- the lowest bit is the oldest undecided event's, the rest of the number is the rest of the events'
   abbrev pub outcome : List (Slot G E) → ℕ → S → S
   outcome [] n s = s
   outcome (slot t g e undecided ∷ xs) n s = outcome xs (n / 2) (cond (eqb (n % 2) 1) (R .effect e s) s)
   outcome (slot t g e committed ∷ xs) n s = outcome xs n (R .effect e s)
 
-  -- "There are 2 to the power u outcomes, numbered from 0": their list, in the order of their numbers
+  -- the states in all outcomes, from number 0 on (4.1)
   unfoldable pub outcomes : List (Slot G E) → S → List S
   outcomes xs s = map (λ (n : ℕ). outcome xs n s) (numbers 0 (2 ^ undecidedOf xs))

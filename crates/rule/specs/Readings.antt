@@ -1,4 +1,4 @@
--- The readings of the lines from their other side: what a line adds, fate by fate, and how a reading of some lines goes on over those behind them.
+-- The readings of the lines from their other side: what a line adds, fate by fate, and how a reading of some lines goes on over those behind them (docs/REGISTER.md, 5.7).
 -- Assumes nothing.
 use Prim.Native.Nat.{ℕ}
 use mathlib.Core.Path.{_≡_}

@@ -1,4 +1,4 @@
--- "Given exactly if": each refusal of an account's messages, both ways, said of the call's answer (document 01, the list of numbers).
+-- When each refusal of an account's messages is given, both ways, said of the call's answer (docs/REGISTER.md, 10.1).
 -- Assumes nothing.
 use Prim.Native.Nat.{ℕ, _≤_}
 use mathlib.Core.Path.{_≡_}
@@ -31,31 +31,25 @@ module _ {G S E B : Type 0} (R : Rule S E B) (a : Account G S E) where
   abbrev pub Gives : Message G E → ℕ → Type 0
   Gives m n = call R a m .answer ≡ refused n
 
-  -- "leaves the register .. unchanged": a refusal of any number
+  -- a refusal, whatever its number, changes nothing
   abbrev pub LeavesIt : Message G E → Type 0
   LeavesIt m = (n : ℕ) → Gives m n → call R a m .account ≡ a
 
 module _ {G S E B : Type 0} (R : Rule S E B) (a : Account G S E) (t : ℕ) (g : G) where
   pub record RequestRefused (e : E) : Type 0 where
-    -- 6: "request: its transaction is in progress or held on that account"
     pub six : Gives R a (request t g e) 6 ↔ (InProgress a t ⊎ OnHold a t)
-    -- 7: "request: 8 are held", after 6
+    -- 7 only where 6 is not given
     pub seven : Gives R a (request t g e) 7 ↔ ((InProgress a t → ⊥) × (OnHold a t → ⊥) × (R .bench ≤ length (a .held)))
     -- and no other number
     pub only : (n : ℕ) → Gives R a (request t g e) n → (n ≡ 6) ⊎ (n ≡ 7)
 
   pub record CommitRefused : Type 0 where
-    -- 8: "transaction neither in progress nor held"
     pub eight : Gives R a (commit t g) 8 ↔ ((InProgress a t → ⊥) × (OnHold a t → ⊥))
-    -- 9: "commit of a held request"
     pub nine : Gives R a (commit t g) 9 ↔ OnHold a t
-    -- 10: "commit of a committed event"
     pub ten : Gives R a (commit t g) 10 ↔ (InProgress a t × (OnHold a t → ⊥) × IsCommitted a t)
     pub only : (n : ℕ) → Gives R a (commit t g) n → (n ≡ 8) ⊎ ((n ≡ 9) ⊎ (n ≡ 10))
 
   pub record AbortRefused : Type 0 where
-    -- 8: "transaction neither in progress nor held"
     pub eight : Gives R a (abort t g) 8 ↔ ((InProgress a t → ⊥) × (OnHold a t → ⊥))
-    -- 11: "abort of a committed event"
     pub eleven : Gives R a (abort t g) 11 ↔ ((InProgress a t ⊎ OnHold a t) × IsCommitted a t)
     pub only : (n : ℕ) → Gives R a (abort t g) n → (n ≡ 8) ⊎ (n ≡ 11)

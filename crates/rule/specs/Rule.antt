@@ -1,4 +1,4 @@
--- What the commit rule is about: an event with a guard and an effect, an account, a message, an entry (document 01, "An account").
+-- What the commit rule is about: an event with a guard and an effect, an account, a message, an entry (docs/REGISTER.md, 2 to 5).
 -- Everything is over any state `S`, any event `E`, anything `G` that is filed with an event and never looked at, and anything `B` that is shown of a state.
 -- Assumes nothing.
 use Prim.Native.Nat.{ℕ}
@@ -16,7 +16,7 @@ pub record Rule (S E B : Type 0) : Type 0 where
   pub room : ℕ
   pub bench : ℕ
 
--- "An event in progress is undecided or committed."
+-- whether the decision on an event in progress has come (2.4)
 pub data Decision : Type 0 where
   undecided committed : Decision
 
@@ -24,7 +24,7 @@ pub data Decision : Type 0 where
 pub data Slot (G E : Type 0) : Type 0 where
   slot : ℕ → G → E → Decision → Slot G E
 
--- "The account has up to 8 events in progress and up to 8 requests held, both in arrival order."
+-- the applied state (2.2), the events in progress and the requests held, each list oldest first (2.3)
 pub record Account (G S E : Type 0) : Type 0 where
   pub state : S
   pub progress : List (Slot G E)

@@ -1,4 +1,4 @@
--- The serial run of events (demand 3).
+-- The serial run of events (docs/REGISTER.md, 13.3).
 -- Assumes nothing.
 use mathlib.Core.Path.{_≡_}
 use mathlib.Core.Bool.{true}
@@ -11,7 +11,7 @@ module _ {S E B : Type 0} (R : Rule S E B) where
   run [] s = s
   run (e ∷ es) s = run es (R .effect e s)
 
-  -- "Every guard holds at its place in that run."
+  -- each event finds its guard true where it stands in the run (13.3 b)
   abbrev pub GuardsHold : List E → S → Type 0
   GuardsHold [] s = Unit {0}
   GuardsHold (e ∷ es) s = (R .guard e s ≡ true) × GuardsHold es (R .effect e s)

@@ -1,4 +1,4 @@
--- What a message that is taken does to its account, and the entries that it writes, in their order (document 01, "Weighing a request" and "Bytes").
+-- What a message that is taken does to its account, and the entries that it writes, in their order (docs/REGISTER.md, 4.6, 5 and 9.4).
 -- Assumes nothing.
 use Prim.Native.Nat.{ℕ}
 use mathlib.Core.Bool.{Bool, cond, not}
@@ -18,14 +18,14 @@ module _ {G E : Type 0} where
   abbrev pub named : ℕ → Slot G E → Bool
   named u (slot t g e d) = eqb u t
 
-  -- "Commit of an undecided event marks it."
+  -- the slot, committed if it is that transaction's (5.1)
   abbrev pub markOne : ℕ → Slot G E → Slot G E
   markOne u (slot t g e d) = slot t g e (cond (eqb u t) committed d)
 
   abbrev pub mark : ℕ → List (Slot G E) → List (Slot G E)
   mark u xs = map (markOne u) xs
 
-  -- what is left when that transaction's slot is taken out
+  -- what is left when that transaction's slot is taken out (5.2)
   abbrev pub without : ℕ → List (Slot G E) → List (Slot G E)
   without u xs = keep (λ (x : Slot G E). not (named u x)) xs
 
@@ -39,7 +39,7 @@ module _ {G S E B : Type 0} where
   after xs step = record { account = step .account; entries = xs ++ step .entries }
 
 module _ {G S E B : Type 0} (R : Rule S E B) where
-  -- "Then, while the oldest event in progress is committed, its effect is applied and it ends": the state then,
+  -- settling (5.3): the state after the effects of all committed events that stand before the first undecided one,
   abbrev pub settledState : S → List (Slot G E) → S
   settledState s [] = s
   settledState s (slot t g e undecided ∷ xs) = s
@@ -63,21 +63,20 @@ module _ {G S E B : Type 0} where
   still s progress held = record { account = record { state = s; progress = progress; held = held }; entries = [] }
 
   -- the oldest held request by its verdict: accepted or rejected it has its entry, and `rest` goes on with what is then in progress;
-  -- "if it is to stay held .. this stops, and no entry is made for it"
+  -- held again it stays, with no entry, and nothing behind it is looked at (5.4)
   abbrev pub drainBy : Verdict → ℕ → Slot G E → S → List (Slot G E) → List (Slot G E) → (List (Slot G E) → Step G S E B) → Step G S E B
   drainBy accept n (slot t g e d) s progress held rest = after (voted accept t g e n ∷ []) (rest (progress ++ (slot t g e undecided ∷ [])))
   drainBy reject n (slot t g e d) s progress held rest = after (voted reject t g e n ∷ []) (rest progress)
   drainBy hold n x s progress held rest = still s progress (x ∷ held)
 
--- a request by its verdict: it is in progress, or not at all, or held behind the others
+-- a request by its verdict: it is in progress, or not at all, or held behind the others (4.6)
 abbrev pub askedBy : {G S E : Type 0} → Verdict → S → List (Slot G E) → List (Slot G E) → Slot G E → Account G S E
 askedBy accept s progress held x = record { state = s; progress = progress ++ (x ∷ []); held = held }
 askedBy reject s progress held x = record { state = s; progress = progress; held = held }
 askedBy hold s progress held x = record { state = s; progress = progress; held = held ++ (x ∷ []) }
 
 module _ {G S E B : Type 0} (R : Rule S E B) where
-  -- "Then the oldest held request is weighed as if nothing were held: accepted or rejected, and the next one follows;
-  -- if it is to stay held, or 8 are in progress, this stops"
+  -- the held requests, oldest first, each decided with nothing held before it, until one is held again (5.4)
   abbrev pub drain : S → List (Slot G E) → List (Slot G E) → Step G S E B
   drain s progress [] = still s progress []
   drain s progress (slot t g e d ∷ held) =
@@ -101,7 +100,7 @@ module _ {G S E B : Type 0} (R : Rule S E B) where
   unfoldable pub committing : Account G S E → ℕ → G → Step G S E B
   committing a t g = after (noted t g ∷ []) (settle (a .state) (mark t (a .progress)) (a .held))
 
-  -- "Abort of an undecided event takes it out at once; abort of a held request takes it out of holding."
+  -- an abort: the event or the held request is dropped, and the rest follows
   unfoldable pub aborting : Account G S E → ℕ → Step G S E B
   aborting a t =
       after (map dropping (keep (named t) (a .progress) ++ keep (named t) (a .held)))

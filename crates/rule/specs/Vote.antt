@@ -1,4 +1,4 @@
--- The vote on a request, plainly: its verdict and its number of outcomes, by the outcomes' numbers, with no word of how a request is weighed (document 01, "A request is: ..").
+-- The vote on a request, plainly: its verdict and its number of outcomes, by the outcomes' numbers, with no word of how a request is weighed (docs/REGISTER.md, 4.4 and 4.5).
 -- Assumes nothing.
 use Prim.Native.Nat.{ℕ, _≤_, _<_, _^_}
 use mathlib.Core.Path.{_≡_}

@@ -1,4 +1,4 @@
--- How a request is decided (document 01, "Weighing a request").
+-- How a request is decided (docs/REGISTER.md, 4.4 and 4.5).
 -- Assumes nothing.
 use Prim.Native.Nat.{ℕ}
 use mathlib.Core.Bool.{cond}
@@ -14,24 +14,23 @@ pub record Weighing : Type 0 where
   pub verdict : Verdict
   pub weighed : ℕ
 
--- "held, with 0 outcomes weighed"
+-- a request held unweighed has the count 0 (4.4)
 abbrev pub unweighed : Weighing
 unweighed = record { verdict = hold; weighed = 0 }
 
 module _ {S E B : Type 0} (R : Rule S E B) where
-  -- "accepted if its guard holds in every outcome, rejected if in none, held if in some only"
+  -- the verdict on an event by the states in all outcomes (4.5)
   unfoldable pub weigh : E → List S → Verdict
   weigh e states = cond (every (R .guard e) states) accept (cond (some-of (R .guard e) states) hold reject)
 
 module _ {G S E B : Type 0} (R : Rule S E B) where
-  -- "as if nothing were held": held with 0 if no place is free in progress, else weighed;
-  -- "the number of outcomes weighed, which equals 2 to the power u", is the length of their list
+  -- a request with nothing held before it: unweighed if no place is free in progress (4.4), else weighed, and its count is the length of the list of outcomes (4.5)
   unfoldable pub decide : E → S → List (Slot G E) → Weighing
   decide e s progress =
       cond (leb (R .room) (length progress)) unweighed
       (record { verdict = weigh R e (outcomes R progress s); weighed = length (outcomes R progress s) })
 
-  -- "held, with 0 outcomes weighed, if a request is already held on the account, or 8 events are in progress; otherwise" weighed
+  -- behind a held request no request is weighed (4.4)
   abbrev pub decideBehind : List (Slot G E) → E → S → List (Slot G E) → Weighing
   decideBehind [] e s progress = decide e s progress
   decideBehind (x ∷ held) e s progress = unweighed

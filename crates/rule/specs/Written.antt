@@ -1,4 +1,4 @@
--- What one call writes: "One call writes, in this order: its own entry (17 to 20 or 22), the applied ones, the entries of held requests now decided." (document 01, "Bytes")
+-- What one call writes, and in which order (docs/REGISTER.md, 9.4).
 -- Assumes nothing.
 use Prim.Native.Nat.{ℕ, _+_, _≤_, _<_}
 use mathlib.Core.Path.{_≡_}
@@ -15,7 +15,7 @@ module _ {G E B : Type 0} where
   OnlyApplied (applied t g e b ∷ xs) = OnlyApplied xs
   OnlyApplied (dropped t g e ∷ xs) = ⊥
 
-  -- nothing but votes of yes or no: "if it is to stay held .. no entry is made for it"
+  -- nothing but votes of yes or no: a request that stays held gets no entry (5.4)
   abbrev pub OnlyDecided : List (Entry G E B) → Type 0
   OnlyDecided [] = Unit {0}
   OnlyDecided (voted accept t g e n ∷ xs) = OnlyDecided xs
