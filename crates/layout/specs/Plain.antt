@@ -1,5 +1,5 @@
--- Numbers, the heading, events and buffers in plain arithmetic and plain rows: the definitions of this crate said a second time, from outside
--- (docs/REGISTER.md, 8.1, 9.1 and 9.2). A byte order, a field's place or an event's kind that definition and code changed together would be seen here.
+-- Numbers, the heading, events and buffers (docs/REGISTER.md, 8.1, 9.1 and 9.2) in plain arithmetic and plain rows: the definitions of this crate
+-- said a second time, from outside. A byte order, a field's place or an event's kind that definition and code changed together would be seen here.
 -- Assumes nothing.
 use Prim.Native.Nat.{ℕ, _+_, _*_, _-_, _/_, _%_, _^_, _≤_, _<_}
 use mathlib.Core.Path.{_≡_}
