@@ -1,7 +1,7 @@
 #!/usr/bin/env python3
 """Writes the probe's test beside this file: `stdin`, a run of frames, and `stdout`, the lines
-that they should give. The lines are written by hand, from docs/PROBE.md and docs/REGISTER.md; nothing
-here computes an answer. Only the bytes of the frames are put together by the functions below."""
+that they should give. The lines are written by hand, as docs/PROBE.md and docs/REGISTER.md have them;
+nothing here computes an answer. Only the bytes of the frames are put together by the functions below."""
 
 from pathlib import Path
 
