@@ -38,10 +38,10 @@ enum {
  * Returns the length of the entries written, which is also counts[NACOZTEYA_WRITTEN].
  *
  * What is promised, for every content and every length:
- *   - each message starts just after the last one, and each call gets the rest of the entry buffer;
- *   - a refused message counts in both NACOZTEYA_MET and NACOZTEYA_REFUSED; after refusal 1 (no whole
- *     message left) or 2 (unknown kind) the run stops there, after any other it skips that message by
- *     its length; where no byte is left, the run has ended and nothing is refused;
+ *   - each message starts where the one before it ends, and each call gets the rest of the entry buffer;
+ *   - a message that is refused is met too, and counts as both; with 1 (no whole message is left) or 2
+ *     (unknown kind) it is the last, with any other number the run goes on behind it. The run ends
+ *     where the bytes do (docs/REGISTER.md, 11.5);
  *   - the first bytes of the entry buffer, as many as are returned, are the entries; the bytes after
  *     them are as they were;
  *   - the function returns, and reads and writes nothing but the three buffers. It keeps nothing: two

@@ -22,14 +22,14 @@ pub enum Standing {
 #[derive(Clone, Debug)]
 pub struct Account {
     applied: State,
-    /// Events in progress in arrival order.
+    /// Events in progress, oldest first.
     progress: VecDeque<Place>,
     held: VecDeque<Request>,
     standing: HashMap<u32, Standing>,
     outcomes: Outcomes,
 }
 
-/// The sentences on requests, commits and aborts.
+/// The rules on requests, commits and aborts (`docs/REGISTER.md`, 4 and 5).
 pub trait AccountRules: EventRules {
     /// So many events can be in progress.
     fn places(&self) -> usize {
@@ -294,17 +294,17 @@ impl Account {
         image
     }
 
-    /// The number of undecided events in progress.
+    /// How many events are undecided.
     pub fn undecided(&self) -> usize {
         self.bit(self.progress.len())
     }
 
-    /// The events in progress, in arrival order.
+    /// The events in progress, oldest first.
     pub fn progress(&self) -> impl ExactSizeIterator<Item = &Place> {
         self.progress.iter()
     }
 
-    /// The held requests, in arrival order.
+    /// The held requests, oldest first.
     pub fn held(&self) -> impl ExactSizeIterator<Item = &Request> {
         self.held.iter()
     }
@@ -314,14 +314,14 @@ impl Account {
         self.standing.get(&transaction).copied()
     }
 
-    /// The transactions with a standing, in arrival order.
+    /// The transactions with a standing, oldest first.
     pub fn with(&self, standing: Standing) -> Vec<u32> {
         let progress = self.progress.iter().map(|place| place.request.transaction);
         let held = self.held.iter().map(|request| request.transaction);
         progress.chain(held).filter(|transaction| self.standing(*transaction) == Some(standing)).collect()
     }
 
-    /// The state in each outcome, in the order of their numbers.
+    /// The state in each outcome, at the place of the outcome's number.
     pub fn outcomes(&self) -> &[State] {
         self.outcomes.states()
     }

@@ -46,7 +46,7 @@ pub struct Found {
     pub failed: u64,
     pub differences: Vec<Difference>,
     pub tallies: Vec<(Target, Tally)>,
-    /// The examples of the document that did not come out.
+    /// The examples that did not come out.
     pub wrong_examples: Vec<Example>,
     /// The programs that answer otherwise where their input cannot be read.
     pub wrong_unread: Vec<Target>,
@@ -106,7 +106,7 @@ impl Found {
     }
 }
 
-/// Compares the document's own examples with what the document says of them.
+/// Compares the examples of `docs/REGISTER.md` with what is said of them there.
 fn compare_examples(subject: &dyn Subject, targets: &[Target], plan: &Plan, found: &mut Found) {
     for example in examples().into_iter().filter(|example| targets.contains(&example.target)) {
         if plan.over() {

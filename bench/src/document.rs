@@ -1,9 +1,10 @@
-//! Document 01's own examples as streams: the sample, cases 1 to 10, the programs that would look right.
+//! The examples of `docs/REGISTER.md` as streams: the sample is that of 12.6, case 1 is 14.1 and so on, and there
+//! is what programs get wrong that look right (the end of 14).
 
 use crate::message::{Head, Message, KINDS};
 use crate::subject::Target;
 
-/// A stream with the end of the text that document 01 gives for it.
+/// A stream with the end of the text that it should give.
 #[derive(Clone, Debug)]
 pub struct Example {
     pub name: &'static str,

@@ -1,4 +1,4 @@
-//! The four events, their guards and effects: document 01's first table.
+//! The four events, their guards and effects (`docs/REGISTER.md`, 3.1).
 
 use crate::limits::LIMIT;
 

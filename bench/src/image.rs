@@ -47,7 +47,7 @@ impl Image {
         self.places[in_progress..PLACES].iter().chain(&self.places[PLACES + held..])
     }
 
-    /// Sets one field to a value, by page 6's numbers; false, and nothing changed, where it is unknown.
+    /// Sets one field to a value, by the numbers of frame 5; false, and nothing changed, where it is unknown.
     pub fn disturb(&mut self, field: u8, place: u8, value: u32) -> bool {
         match field {
             0 => self.set_life(value),

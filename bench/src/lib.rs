@@ -1,6 +1,7 @@
-//! An independent implementation of document 01: bytes in, entries and text out.
+//! An independent implementation of `docs/REGISTER.md`: bytes in, entries and
+//! text out.
 //!
-//! It is written from the document. Its account keeps the list of its outcomes
+//! It goes by the words of that page. Its account keeps the list of its outcomes
 //! and halves or doubles it, so it shares no walk and no array of places with
 //! the proved register; the two meet in bytes and text alone.
 //!
@@ -8,8 +9,8 @@
 //! from no other, and so do the files of a folder, in the order of its `mod.rs`
 //! (`tests/files.rs` checks it).
 
-// The model: document 01, and the probe's page. A reader can go along them with
-// the document. `rules` says how a version of the model does otherwise.
+// The model: the register, and the probe's page. `rules` says how a version of
+// the model does otherwise.
 pub mod limits;
 pub mod bytes;
 pub mod event;

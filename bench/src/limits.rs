@@ -1,4 +1,4 @@
-//! The limits of document 01.
+//! The limits (`docs/REGISTER.md`, 2, 7.1, 9.5 and 12.1).
 
 /// Events in progress and requests held that an account has room for.
 pub const PLACES: usize = 8;

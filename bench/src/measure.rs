@@ -74,14 +74,14 @@ pub fn times(messages: &[u8], runners: &[Runner], rounds: usize) -> Vec<f64> {
     fastest
 }
 
-/// Whether the versions under document 01's rules agree on the stream, and no version refuses any of it.
+/// Whether the versions that keep every rule agree on the stream, and no version refuses any of it.
 pub fn agree(messages: &[u8], runners: &[Runner]) -> bool {
     let mut room = room(messages);
     let taken = |runner: &Runner| runner.run(messages, &mut room).refused == 0;
     runners.iter().all(taken) && agree_on_entries(messages, runners)
 }
 
-/// Whether the versions under document 01's rules agree on the stream: messages met and refused, and entries.
+/// Whether the versions that keep every rule agree on the stream: messages met and refused, and entries.
 pub fn agree_on_entries(messages: &[u8], runners: &[Runner]) -> bool {
     let mut room = room(messages);
     let right = run::run(messages, &Document);

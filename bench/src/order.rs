@@ -1,11 +1,11 @@
-//! "In order": each clause of document 01's sentence, told apart.
+//! In order (`docs/REGISTER.md`, 6): each clause told apart.
 
 use crate::event::{EventRules, Life};
 use crate::image::{Image, Place};
 use crate::limits::{LIMIT, PLACES};
 use crate::outcomes::{Outcomes, Vote};
 
-/// One clause of "an account is in order if".
+/// One of the things that order asks of an account.
 #[derive(Clone, Copy, PartialEq, Eq, Debug)]
 pub enum Clause {
     InProgressWithin,
@@ -21,7 +21,7 @@ pub enum Clause {
 }
 
 impl Clause {
-    /// Every clause, in the order of the sentence.
+    /// Every clause.
     pub const ALL: [Clause; 10] = [
         Clause::InProgressWithin,
         Clause::HeldWithin,
@@ -35,7 +35,7 @@ impl Clause {
         Clause::HeldHasNoDecision,
     ];
 
-    /// The clause in document 01's words.
+    /// The clause in words.
     pub fn says(self) -> &'static str {
         match self {
             Clause::InProgressWithin => "the number in progress is within 8",
@@ -73,7 +73,7 @@ impl Clause {
     }
 }
 
-/// The sentence as a whole.
+/// All clauses together.
 pub trait OrderRules: EventRules {
     /// Whether the stored account is in order.
     fn in_order(&self, image: &Image) -> bool {

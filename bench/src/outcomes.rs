@@ -32,7 +32,7 @@ impl Outcomes {
         self.states.len()
     }
 
-    /// Accepted where it holds in every outcome, rejected where in none, held where in some only.
+    /// The vote: what all outcomes say, or held where they do not say the same (`docs/REGISTER.md`, 4.5).
     pub fn vote(&self, holds: impl Fn(State) -> bool) -> Vote {
         vote(&self.states, holds)
     }

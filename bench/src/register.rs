@@ -29,7 +29,7 @@ pub struct Taken {
     pub entries: Vec<Entry>,
 }
 
-/// The sentences on a call.
+/// The rules of a call (`docs/REGISTER.md`, 10 and 11.1).
 pub trait RegisterRules: AccountRules + OrderRules + MessageRules {
     /// The room that every call asks for.
     fn room(&self) -> usize {

@@ -1,7 +1,8 @@
-//! The rules as a whole, and who keeps them: document 01 as it stands, and the variations that the benchmark measures.
+//! The rules as a whole, and who keeps them: `docs/REGISTER.md` as it stands, and the variations that the benchmark
+//! measures.
 //!
-//! Each file of the model has a trait whose methods are document 01's sentences on its subject. A version of the model
-//! is a type with these traits; what it does not say otherwise it does as the document says.
+//! Each file of the model has a trait whose methods are the rules on its subject. A version of the model is a type with
+//! these traits; what it does not say otherwise it does as it is told.
 
 use crate::account::AccountRules;
 use crate::entry::EntryRules;
@@ -28,18 +29,18 @@ pub trait Rules: ProbeRules + Copy {
     }
 }
 
-/// Gives a version the traits in which it does as document 01 says.
+/// Gives a version the traits in which it does as it is told.
 macro_rules! as_told {
     ($version:ident: $($rules:ident)*) => { $(impl $rules for $version {})* };
 }
 
-/// Document 01 as it stands.
+/// The rules as they stand.
 #[derive(Clone, Copy, PartialEq, Eq, Debug)]
 pub struct Document;
 
 as_told!(Document: EventRules MessageRules EntryRules AccountRules OrderRules RegisterRules RunRules ProbeRules Rules);
 
-/// Document 01, and each call judges anew that its account is in order.
+/// The same, and each call judges anew that its account is in order.
 #[derive(Clone, Copy, PartialEq, Eq, Debug)]
 pub struct Judged;
 
@@ -51,7 +52,7 @@ impl RegisterRules for Judged {
     }
 }
 
-/// Document 01 with another number of events in progress at once: 1 is the two-phase-locking way.
+/// The rules with another number of events in progress at once: 1 is the two-phase-locking way.
 #[derive(Clone, Copy, PartialEq, Eq, Debug)]
 pub struct Places(pub usize);
 

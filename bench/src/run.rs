@@ -13,7 +13,7 @@ pub struct Ran {
     pub written: u64,
 }
 
-/// The sentences on what follows a refusal, and runs as a whole.
+/// What follows a refusal, and runs as a whole (`docs/REGISTER.md`, 11.5).
 pub trait RunRules: RegisterRules {
     /// The length by which a refused message of a kind is skipped, none where reading stops at it.
     fn skipped(&self, kind: u8, number: u8) -> Option<usize> {

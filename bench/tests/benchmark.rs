@@ -19,7 +19,7 @@ fn counts(messages: &[u8]) -> Vec<u32> {
     counts
 }
 
-/// No version refuses anything, and those under document 01's rules agree.
+/// No version refuses anything, and those that keep every rule agree.
 #[test]
 fn versions_agree() {
     for in_progress in IN_PROGRESS {

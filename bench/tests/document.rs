@@ -1,4 +1,4 @@
-//! Document 01's sample, cases and examples on the independent implementation.
+//! The examples of `docs/REGISTER.md` on the independent implementation.
 
 use independent::document::{examples, messages, SAMPLE};
 use independent::program;
@@ -11,7 +11,7 @@ fn the_sample() {
     assert_eq!(program::text(&messages(words).concat(), &Document), SAMPLE);
 }
 
-/// Cases 1 to 10, and the programs that would look right.
+/// The cases of 14, and the programs that look right and are not.
 #[test]
 fn cases() {
     for example in examples() {

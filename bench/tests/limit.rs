@@ -32,7 +32,7 @@ impl Subject for Limit {
     }
 }
 
-/// All that the exported call is compared on: streams of every kind, and the examples of document 01.
+/// All that the exported call is compared on: streams of every kind, and every example.
 #[test]
 fn runs_as_the_exported_call() {
     let plan = Plan { seed: 7, first: 0, count: 150, until: None };

@@ -1,4 +1,5 @@
-//! What must hold of the model on seeded traffic: its short cuts against document 01's words.
+//! What must hold of the model on seeded traffic: its short cuts against the words of
+//! `docs/REGISTER.md`, 4.3 and 6.
 
 use independent::event::{EventRules, State};
 use independent::image::Image;

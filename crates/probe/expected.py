@@ -1,7 +1,7 @@
 #!/usr/bin/env python3
 """Writes the probe's test beside this file: `stdin`, a run of frames, and `stdout`, the lines
-that they should give. The lines are written by hand, from docs/PROBE.md and document 01; nothing
-here computes an answer. Only the bytes of the frames are put together by the functions below."""
+that they should give. The lines are written by hand, as docs/PROBE.md and docs/REGISTER.md have them;
+nothing here computes an answer. Only the bytes of the frames are put together by the functions below."""
 
 from pathlib import Path
 
@@ -78,7 +78,7 @@ def step(account, kind, transaction, second, amount, line):
     case(68, sent + number(transaction, 4) + number(second, 4) + number(amount, 4), line)
 
 
-# The example of document 01, on account 0; every second is 100.
+# The example of clause 12.6, on account 0; every second is 100.
 show(0, "account new 0 0 0")
 call(message(OPEN, 1, 0, 100, 100), "taken 15 18", hexed("11 00000001 0000 00000064 01 00000064 0001"), "kept")
 show(0, "account new 0 1 0 0=1:100:1:100:u")
@@ -106,7 +106,7 @@ call(
 )
 show(0, "account opened 40 0 0")
 
-# Refusals 1 to 4 of the call, in their order. Bytes after a whole message are not looked at.
+# Refusals 1 to 4 of the call, in their order. Whatever follows a whole message plays no part.
 call(b"", "refused 1 kept")
 call(b"", "refused 1 kept", room=0)
 call(b"\0", "refused 2 kept")
@@ -124,7 +124,7 @@ case(1, b"\1", "unknown")
 case(1, b"", "unknown")
 show(15, "account new 0 0 0")
 
-# Account 1, opened with 100 by frame 5: cases 5 and 6, with second 7 in the requests and 8 in the commits.
+# Account 1, opened with 100 by frame 5: cases 14.5 and 14.6, with second 7 in the requests and 8 in the commits.
 disturb(1, LIFE, 0, 1)
 order(1, "order yes")
 disturb(1, BALANCE, 0, 100)
@@ -306,7 +306,7 @@ entry("14 00000001 0002 000000", "none")
 entry("15 00000001 0002 00000003 03 00000004 ffffff", "none")
 entry("16 00000001 0002 00000003 04 000000", "none")
 
-# An entry's line of text: document 01's names and order of fields.
+# An entry's line of text: names and order of fields as in clause 12.4.
 text("11 00000001 0000 00000064 01 00000064 0001", "accepted 1 0 100 open 100 1")
 text("12 00000001 000f 00000000 03 00000005 0080", "rejected 1 15 0 deposit 5 128")
 text("13 00000003 0000 00000064 02 0000003c 0002 ff", "held 3 0 100 withdraw 60 2")
@@ -341,7 +341,7 @@ case(68, bytes(14), "unknown")
 case(68, bytes(16), "unknown")
 show(4, "account new 0 0 0")
 
-# A run of messages through a fresh register of its own. First the example of document 01.
+# A run of messages through a fresh register of its own. First the example of clause 12.6.
 run(
     message(OPEN, 1, 0, 100, 100)
     + message(COMMIT, 1, 0, 100)

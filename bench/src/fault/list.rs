@@ -2,7 +2,7 @@
 
 use crate::order::Clause;
 
-/// The model with one fault: where its fault has nothing to say, it does as document 01 does.
+/// The model with one fault: where its fault has nothing to say, it keeps the rules.
 #[derive(Clone, Copy, PartialEq, Eq, Debug)]
 pub struct Wrong(pub Fault);
 

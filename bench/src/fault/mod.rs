@@ -1,5 +1,4 @@
-//! The wrong versions that the comparison has to find: the list, and what each does otherwise where document 01 has its
-//! sentence.
+//! The wrong versions that the comparison has to find: the list, and what each does otherwise than the rule.
 
 mod list;
 mod account;

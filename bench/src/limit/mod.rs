@@ -1,5 +1,5 @@
-//! The limit: how fast a register can be that makes every check of document 01 at every call, by hand, in place, in
-//! safe Rust, with nothing proved. It is a measure for the others and shares no rule with the independent
+//! The limit: how fast a register can be that makes every check of `docs/REGISTER.md`, 10, at every call, by hand, in
+//! place, in safe Rust, with nothing proved. It is a measure for the others and shares no rule with the independent
 //! implementation.
 
 mod place;

@@ -41,7 +41,7 @@ impl Outlook {
         1 << self.undecided
     }
 
-    /// Accepted where the guard holds in every outcome, rejected where it holds in none.
+    /// The vote on a request, from its guard at the two ends.
     pub fn weigh(&self, place: Place) -> Vote {
         let amount = place.amount();
         // From 1 to a bound: less than the bound after 1 is taken off, since 0 then turns into the highest number.
@@ -61,8 +61,8 @@ impl Outlook {
         }
     }
 
-    /// Takes up an event: applied where it is committed, else applied or not. Says whether its guard holds in every
-    /// outcome; where it does not, the outlook says nothing any more.
+    /// Takes up an event: applied where it is committed, else applied or not. Says whether its guard fails nowhere;
+    /// where it fails in an outcome, the outlook says nothing any more.
     pub fn take_up(&mut self, place: Place) -> bool {
         let amount = place.amount();
         let (surely, left) = if place.committed() { (amount, 0) } else { (0, self.lives) };

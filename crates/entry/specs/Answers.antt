@@ -1,4 +1,4 @@
--- What the writer of a call's entries and the reader of one entry answer (document 01, "Bytes" and "Numbers given when a call is not taken").
+-- What the writer of a call's entries and the reader of one entry answer (docs/REGISTER.md, 9.6, 10.1 and 11.4).
 -- Assumes nothing.
 use Prim.Native.Nat.{ℕ}
 use mathlib.Core.Bool.{Bool, true, cond, not, _&&_, _||_}
@@ -16,11 +16,11 @@ use Rattle.entry.specs.declared.EntryReading.{EntryReading}
 use Rattle.entry.specs.declared.EntryReading.the-variants.{Found, Nothing}
 use Rattle.entry.specs.Bytes.{entryRows, bytesOfEntries, listOf, toldBy, entryOf}
 
--- "The longest call is 11 + 8 × 20 + 8 × 18 = 315 bytes."
+-- no call writes more: 11 for the commit, 20 for each of eight applied, 18 for each of eight votes (9.5)
 abbrev pub longestCall : ℕ
 longestCall = 315
 
--- the writer of a call's entries. 4: "entry buffer under 315 bytes", and also where entries that no call gives would not fit
+-- the writer of a call's entries. 4 where the buffer is too short for some call, and also where entries that no call gives would not fit
 unfoldable pub writeOf : Entries → (account : ℕ) (buffer : List ℕ) → Wrote
 writeOf entries account buffer =
     let bytes = bytesOfEntries account (listOf entries) in
@@ -37,7 +37,7 @@ abbrev pub given : EntryReading → Given
 given (Found e account whole) = record { entry = some e; account = account; length′ = whole }
 given Nothing = record { entry = none; account = 0; length′ = 0 }
 
--- an event kind 1 to 4, and "The amount of Close is 0"
+-- an event kind 1 to 4, and with a Close no amount but 0 (9.2)
 abbrev pub eventFits : (kind amount : ℕ) → Bool
 eventFits kind amount = leb 1 kind && leb kind 4 && (not (eqb kind 4) || eqb amount 0)
 
@@ -57,7 +57,7 @@ abbrev pub readKind : Option Row → (bytes : List ℕ) → EntryReading
 readKind none bytes = Nothing
 readKind (some r) bytes = cond (ltb (length bytes) (r .whole)) Nothing (readNumbers (r .whole) (numbersAt (widthsOf (some r)) bytes 0))
 
--- the reader of one entry, "by the layout alone"; bytes after a whole entry are not looked at
+-- the reader of one entry; bytes behind it play no part (9.6)
 unfoldable pub readOf : (bytes : List ℕ) → EntryReading
 readOf bytes = readKind (rowOf entryRows (numberAt bytes 0 1)) bytes
 

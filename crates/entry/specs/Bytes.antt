@@ -1,4 +1,4 @@
--- Entries in bytes (document 01, "Bytes", its second table). Each entry carries the number of its account, which the entry as a value does not know.
+-- Entries in bytes (docs/REGISTER.md, 9.1). Each entry carries the number of its account, which the entry as a value does not know.
 -- Assumes nothing.
 use Prim.Native.Nat.{ℕ, _+_}
 use mathlib.Core.Bool.{cond}
@@ -24,7 +24,6 @@ entryRows =
     row 22 16 (1 ∷ 4 ∷ []) ∷
     []
 
--- "accepted, rejected, held", "commit noted", "applied", "dropped"
 abbrev pub kindOf : Told → ℕ
 kindOf (Accepted e weighed) = 17
 kindOf (Rejected e weighed) = 18
@@ -33,7 +32,7 @@ kindOf Noted = 20
 kindOf (Applied e balance) = 21
 kindOf (Dropped e) = 22
 
--- "event kind 1, amount 4, outcomes weighed 2", "nothing", "event kind 1, amount 4, balance after 4", "event kind 1, amount 4"
+-- what follows the heading: the event, and the outcomes weighed or the balance; nothing after a commit noted
 abbrev pub thenNumbers : Told → List ℕ
 thenNumbers (Accepted e weighed) = eventKind e ∷ amountOf e ∷ weighed ∷ []
 thenNumbers (Rejected e weighed) = eventKind e ∷ amountOf e ∷ weighed ∷ []
@@ -42,7 +41,7 @@ thenNumbers Noted = []
 thenNumbers (Applied e balance) = eventKind e ∷ amountOf e ∷ balance ∷ []
 thenNumbers (Dropped e) = eventKind e ∷ amountOf e ∷ []
 
--- "Entries begin with kind, transaction, account, second"
+-- the heading, and what follows it
 abbrev pub numbersOf : (account : ℕ) → Entry → List ℕ
 numbersOf account e = kindOf (e .told) ∷ e .transaction ∷ account ∷ e .second ∷ thenNumbers (e .told)
 

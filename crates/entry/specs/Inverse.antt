@@ -1,4 +1,4 @@
--- Reader and writer of entries are inverse (document 01, "Bytes"; demand 2).
+-- Reader and writer of entries are inverse (docs/REGISTER.md, 9), as those of messages are.
 -- Assumes nothing.
 use Prim.Native.Nat.{ℕ, _≤_, _<_, _^_}
 use mathlib.Core.Path.{_≡_}

@@ -1,5 +1,4 @@
--- How long the entries of one call are (document 01, "Bytes": "One call writes, in this order: its own entry (17 to 20 or 22), the applied ones,
--- the entries of held requests now decided. The longest call is 11 + 8 × 20 + 8 × 18 = 315 bytes.").
+-- How long the entries of one call are: its own, those of the events applied, the votes on held requests (docs/REGISTER.md, 9.4 and 9.5).
 -- Assumes nothing.
 use Prim.Native.Nat.{ℕ, _+_, _*_, _≤_}
 use mathlib.Core.Path.{_≡_}
@@ -57,7 +56,7 @@ pub record CallFits (a : Account) (m : rule.Message ℕ Event) : Type 0 where
 abbrev pub CallsFit : Type 0
 CallsFit = (a : Account) (m : rule.Message ℕ Event) → CallFits a m
 
--- so of a step's entries the writer refuses exactly if "entry buffer under 315 bytes"
+-- so a step's entries are refused exactly if the buffer has less than 315 bytes
 abbrev pub CallsRefused : Type 0
 CallsRefused =
     (a : Account) (m : rule.Message ℕ Event) (account : ℕ) (buffer : List ℕ)

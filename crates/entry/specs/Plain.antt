@@ -1,5 +1,5 @@
--- What the reader finds in the bytes and what the writer of a call leaves in the buffer, field by field in plain numbers (document 01, "Bytes", its
--- second table): the definitions of entries said a second time, from outside, for every byte string and every entry.
+-- Entries (docs/REGISTER.md, 9.1 and 9.6) field by field in plain numbers: what the reader finds in the bytes and what the writer of a call leaves in
+-- the buffer. The definitions of entries said a second time, from outside, for every byte string and every entry.
 -- Assumes nothing.
 use Prim.Native.Nat.{ℕ, _+_, _≤_}
 use mathlib.Core.Path.{_≡_}

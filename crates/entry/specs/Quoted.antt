@@ -1,4 +1,4 @@
--- Quoted text as bytes, so that a line can be read as it is printed.
+-- Quoted text as bytes, so that a line can be read as it is printed (docs/REGISTER.md, 12.4).
 -- Assumes nothing.
 use Prim.Native.Nat.{ℕ}
 use Prim.Native.Char.{code}

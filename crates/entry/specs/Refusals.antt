@@ -1,4 +1,4 @@
--- When the writers of entries and of lines refuse, and what they leave (document 01, "Numbers given when a call is not taken").
+-- When the writers of entries and of lines refuse, and what they leave (docs/REGISTER.md, 10.1 and 11.4).
 -- Assumes nothing.
 use Prim.Native.Nat.{ℕ, _<_}
 use mathlib.Core.Path.{_≡_}
@@ -14,7 +14,7 @@ use Rattle.entry.specs.Answers.{writeOf}
 use Rattle.entry.specs.Plain.{lengthsIn}
 use Rattle.entry.specs.Text.{writeLineOf}
 
--- 4 exactly if "entry buffer under 315 bytes", or if the entries do not fit; of a step's entries the second never holds (Longest)
+-- 4 exactly if the buffer has less than 315 bytes, or if the entries do not fit; of a step's entries the second never holds (Longest)
 abbrev pub WriterRefuses : Type 0
 WriterRefuses =
     (entries : Entries) (account : ℕ) (buffer : List ℕ)

@@ -1,6 +1,6 @@
--- Entries as literal bytes and literal lines of text: only a literal fixes kinds, lengths, the order of the fields and of the bytes in them, and
--- the words of the text (document 01, "Bytes", its second table, and "The program"). One table with a row for each kind of entry, each event and
--- each vote, no two bytes of a row alike but zeros; one statement, which antt computes.
+-- Entries as literal bytes and literal lines of text (docs/REGISTER.md, 9.1, 9.6, 12.4 and 12.5): only a literal fixes kinds, lengths, the order of
+-- the fields and of the bytes in them, and the words of the text. One table with a row for each kind of entry, each event and each vote, no two
+-- bytes of a row alike but zeros; one statement, which antt computes.
 -- Assumes nothing.
 use Prim.Native.Nat.{ℕ, _-_}
 use Prim.Native.String.{String}

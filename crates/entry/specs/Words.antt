@@ -1,4 +1,4 @@
--- A name as the code holds it: its length, and eight letters, of which those after the name are spaces.
+-- A name as the code holds it: its length, and eight letters, of which those after the name are spaces (docs/REGISTER.md, 12.4).
 -- Assumes nothing.
 use Prim.Native.Nat.{ℕ, _-_}
 use mathlib.Core.List.{List, _++_}

@@ -1,4 +1,4 @@
--- Writers: an answer is what document 01 says of it, and bytes after the length written stay.
+-- Writers: an answer is what is said of it, and bytes behind those that were written are as they were.
 -- Assumes nothing.
 use Prim.Native.Nat.{ℕ, _≤_}
 use native.Mathlib.Omega.{arith}

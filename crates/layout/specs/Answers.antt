@@ -1,4 +1,4 @@
--- What a writer gives: its answer, by document 01's numbers ("Numbers given when a call is not taken"), and the buffer that it leaves.
+-- What a writer gives: its answer, and the buffer that it leaves (docs/REGISTER.md, 10.1 and 11.3).
 -- Assumes nothing.
 use Prim.Native.Nat.{ℕ}
 use mathlib.Core.Path.{_≡_}
@@ -9,7 +9,7 @@ use lib.ListN.{length, drop}
 use Rattle.layout.specs.declared.Writing.{Writing}
 use Rattle.layout.specs.declared.Writing.the-variants.{Written, Refused}
 
--- what document 01 says of a writer's answer: the number of its refusal, if it is one, and the length written, which is 0 for a refusal
+-- what a writer's answer says: the number of its refusal, if it is one, and the length written, which is 0 for a refusal
 pub record Given : Type 0 where
   pub refusal : Option ℕ
   pub length′ : ℕ
@@ -30,11 +30,11 @@ laidOver bytes buffer = bytes ++ drop (length bytes) buffer
 abbrev pub wroteOver : (bytes buffer : List ℕ) → Wrote
 wroteOver bytes buffer = record { answer = Written (length bytes); buffer = laidOver bytes buffer }
 
--- a refusal "leaves .. each buffer unchanged"
+-- a refusal leaves the buffer as it was (10.1)
 abbrev pub refusedWith : (number : ℕ) (buffer : List ℕ) → Wrote
 refusedWith number buffer = record { answer = Refused number; buffer = buffer }
 
--- "Buffer bytes after the length written stay", all of them where the writer refuses
+-- bytes behind those that were written are as they were, all of them where the writer refuses (11.3)
 pub record Stays (buffer : List ℕ) (w : Wrote) : Type 0 where
   pub size : length (w .buffer) ≡ length buffer
   pub rest : drop (given (w .answer) .length′) (w .buffer) ≡ drop (given (w .answer) .length′) buffer

@@ -1,4 +1,4 @@
--- An event in bytes: its kind and its amount (document 01, "Bytes": "The event kind is 1 Open, 2 Withdraw, 3 Deposit, 4 Close. The amount of Close is 0").
+-- An event in bytes: its kind and its amount (docs/REGISTER.md, 9.2).
 -- Assumes nothing.
 use Prim.Native.Nat.{ℕ}
 use mathlib.Core.Bool.{cond}

@@ -1,4 +1,4 @@
--- Fields one after the other, each a number of its own width, and the tables of kinds (document 01, "Bytes").
+-- Fields one after the other, each a number of its own width, and the tables of kinds (docs/REGISTER.md, 8.1 and 9.1).
 -- Assumes nothing.
 use Prim.Native.Nat.{ℕ, _+_}
 use mathlib.Core.Bool.{cond}
@@ -23,11 +23,11 @@ abbrev pub total : (widths : List ℕ) → ℕ
 total [] = 0
 total (width ∷ widths) = width + total widths
 
--- "One byte of kind, then .. transaction 4 bytes, account 2, second 4": messages and entries begin so
+-- kind, transaction, account, second: messages and entries begin so
 abbrev pub heading : List ℕ
 heading = 1 ∷ 4 ∷ 2 ∷ 4 ∷ []
 
--- "16 accounts, numbered 0 to 15"
+-- the highest number of an account (7.1)
 abbrev pub lastAccount : ℕ
 lastAccount = 15
 

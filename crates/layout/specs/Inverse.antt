@@ -1,4 +1,4 @@
--- Reading and writing of numbers and of fields are inverse, in every width and wherever they stand.
+-- Reading and writing of numbers and of fields are inverse, in every width and wherever they stand (docs/REGISTER.md, 8.3).
 -- Assumes nothing.
 use Prim.Native.Nat.{ℕ, _+_, _^_, _≤_, _<_}
 use mathlib.Core.Path.{_≡_}

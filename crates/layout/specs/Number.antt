@@ -1,4 +1,4 @@
--- Numbers in bytes (document 01, "Bytes": "Numbers are unsigned, highest byte first").
+-- Numbers in bytes, the highest byte first (docs/REGISTER.md, 8.1).
 -- Assumes nothing.
 use Prim.Native.Nat.{ℕ, zero, suc, _+_, _*_, _/_, _%_, _<_}
 use mathlib.Core.List.{List, [], _∷_, _++_}

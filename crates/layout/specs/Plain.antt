@@ -1,5 +1,5 @@
--- Numbers, the heading, events and buffers in plain arithmetic and plain rows: the definitions of this crate said a second time, from outside
--- (document 01, "Bytes"). A byte order, a field's place or an event's kind that definition and code changed together would be seen here.
+-- Numbers, the heading, events and buffers (docs/REGISTER.md, 8.1, 9.1 and 9.2) in plain arithmetic and plain rows: the definitions of this crate
+-- said a second time, from outside. A byte order, a field's place or an event's kind that definition and code changed together would be seen here.
 -- Assumes nothing.
 use Prim.Native.Nat.{ℕ, _+_, _*_, _-_, _/_, _%_, _^_, _≤_, _<_}
 use mathlib.Core.Path.{_≡_}
@@ -29,7 +29,7 @@ twoOf number = number / 256 % 256 ∷ number % 256 ∷ []
 abbrev pub fourOf : (number : ℕ) → List ℕ
 fourOf number = number / 16_777_216 % 256 ∷ number / 65_536 % 256 ∷ number / 256 % 256 ∷ number % 256 ∷ []
 
--- what stands in the widths that document 01 has
+-- what stands in 1, 2 and 4 bytes: there are no other widths
 pub record Plain (bytes : List ℕ) (at number : ℕ) : Type 0 where
   pub read1 : numberAt bytes at 1 ≡ getD bytes at 0
   pub read2 : numberAt bytes at 2 ≡ twoAt bytes at

@@ -1,4 +1,4 @@
--- Numbers, the heading, a buffer and the order of tests as literals (document 01, "Bytes"): what antt computes from the definitions alone.
+-- Numbers, the heading, a buffer and the order of tests as literals (docs/REGISTER.md, 8.1 and 10.1): what antt computes from the definitions alone.
 -- Assumes nothing.
 use Prim.Native.Nat.{ℕ}
 use mathlib.Core.Path.{_≡_}

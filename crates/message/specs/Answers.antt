@@ -1,4 +1,4 @@
--- What the reader and the writer of messages answer (document 01, "Numbers given when a call is not taken").
+-- What the reader and the writer of messages answer (docs/REGISTER.md, 10.1 and 11.3).
 -- Assumes nothing.
 use Prim.Native.Nat.{ℕ}
 use mathlib.Core.Bool.{cond}
@@ -14,7 +14,7 @@ use Rattle.message.specs.declared.Reading.{Reading}
 use Rattle.message.specs.declared.Reading.the-variants as Reading′
 use Rattle.message.specs.Bytes.{messages, headingOf, messageOf, bytesOfMessage, lengthOfMessage}
 
--- what document 01 says of the reader's answer: the number of its refusal, if it is one, the consumed length, which is 0 for a refusal, and the message
+-- what the reader's answer says: the number of its refusal, if it is one, how many bytes it consumed, 0 for a refusal, and the message
 pub record Given : Type 0 where
   pub refusal : Option ℕ
   pub consumed : ℕ
@@ -24,21 +24,21 @@ abbrev pub given : Reading → Given
 given (Reading′.Message m whole) = record { refusal = none; consumed = whole; message = some m }
 given (Reading′.Refused number) = record { refusal = some number; consumed = 0; message = none }
 
--- 3: "account above 15"
+-- 3: the register has no such account
 abbrev pub readNumbers : (whole : ℕ) (numbers : List ℕ) → Reading
 readNumbers whole numbers = cond (ltb lastAccount (getD numbers 2 0)) (Reading′.Refused 3) (Reading′.Message (messageOf numbers) whole)
 
--- 2: "kind not 1 to 6"; 1: "shorter than its kind's length"
+-- 2: no message has this kind; 1: bytes are missing
 abbrev pub readKind : Option Row → (bytes : List ℕ) → Reading
 readKind none bytes = Reading′.Refused 2
 readKind (some r) bytes =
     cond (ltb (length bytes) (r .whole)) (Reading′.Refused 1) (readNumbers (r .whole) (numbersAt (widthsOf (some r)) bytes 0))
 
--- the reader: "1, 2, 1 and 3 in that order", the first for an empty message
+-- the reader: 1 where there is no byte; else the kind is looked at before the length, and both before the account (10.2)
 unfoldable pub readOf : (bytes : List ℕ) → Reading
 readOf bytes = cond (eqb (length bytes) 0) (Reading′.Refused 1) (readKind (rowOf messages (numberAt bytes 0 1)) bytes)
 
--- the writer: "3, 4"
+-- the writer: the account is looked at before the buffer
 unfoldable pub writeOf : Message → (buffer : List ℕ) → Wrote
 writeOf m buffer =
     cond (ltb lastAccount (headingOf m .account)) (refusedWith 3 buffer)

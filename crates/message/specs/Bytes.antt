@@ -1,4 +1,4 @@
--- Messages in bytes (document 01, "Bytes", its first table).
+-- Messages in bytes (docs/REGISTER.md, 8.1).
 -- Assumes nothing.
 use Prim.Native.Nat.{ℕ}
 use mathlib.Core.Bool.{cond}
@@ -23,7 +23,7 @@ messages =
     row 6 11 [] ∷
     []
 
--- "Open, Withdraw, Deposit request", "Close request", "Commit, Abort"
+-- a request has the kind of its event (9.2)
 abbrev pub kindOf : Message → ℕ
 kindOf (Request h e) = eventKind e
 kindOf (Commit h) = 5
@@ -49,14 +49,14 @@ amountIn (Request h e) = amountOf e
 amountIn (Commit h) = 0
 amountIn (Abort h) = 0
 
--- "transaction 4 bytes, account 2, second 4, amount 4, in that order"
+-- the fields in their order
 abbrev pub numbersOf : Message → List ℕ
 numbersOf m = kindOf m ∷ headingOf m .transaction ∷ headingOf m .account ∷ headingOf m .second ∷ amountsOf m
 
 unfoldable pub bytesOfMessage : Message → List ℕ
 bytesOfMessage m = written (widthsOf (rowOf messages (kindOf m))) (numbersOf m)
 
--- "a body whose length the kind fixes"
+-- the whole length, by the kind alone
 unfoldable pub lengthOfMessage : Message → ℕ
 lengthOfMessage m = wholeOf (rowOf messages (kindOf m))
 

@@ -1,4 +1,4 @@
--- Reader and writer of messages are inverse (demand 2: "Messages are written and read by the listed layout, each the inverse of the other").
+-- Reader and writer of messages are inverse (docs/REGISTER.md, 8.3 and 13.2).
 -- Assumes nothing.
 use Prim.Native.Nat.{ℕ, _≤_, _<_, _^_}
 use mathlib.Core.Path.{_≡_}

@@ -1,5 +1,5 @@
--- What the reader takes from the bytes and what the writer leaves in the buffer, field by field in plain numbers (document 01, "Bytes", its first
--- table): the definitions of messages said a second time, from outside, for every byte string and every message.
+-- What the reader takes from the bytes and what the writer leaves in the buffer, field by field in plain numbers (docs/REGISTER.md, 8.1):
+-- the definitions of messages said a second time, from outside, for every byte string and every message.
 -- Assumes nothing.
 use Prim.Native.Nat.{ℕ, _≤_}
 use mathlib.Core.Path.{_≡_}

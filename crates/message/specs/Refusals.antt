@@ -1,4 +1,4 @@
--- When the reader and the writer refuse, in document 01's words and order ("Numbers given when a call is not taken").
+-- When the reader and the writer refuse: the tests of each in their order (docs/REGISTER.md, 10.1).
 -- Assumes nothing.
 use Prim.Native.Nat.{ℕ}
 use mathlib.Core.Path.{_≡_}

@@ -1,6 +1,6 @@
--- Messages as literal bytes: only a literal fixes kinds, lengths, the order of the fields and of the bytes in them (document 01, "Bytes", its first
--- table, and "Numbers given when a call is not taken"). One table with a row for each kind, no two bytes of a row alike but the account's first,
--- which is 0; a table of refusals, each row the first test that holds of several; one statement, which antt computes.
+-- Messages as literal bytes (docs/REGISTER.md, 8.1 and 10.1): only a literal fixes kinds, lengths, the order of the fields and of the bytes in them.
+-- One table with a row for each kind, no two bytes of a row alike but the account's first, which is 0; a table of refusals, each row the first test
+-- that holds of several; one statement, which antt computes.
 -- Assumes nothing.
 use Prim.Native.Nat.{ℕ}
 use mathlib.Core.Path.{_≡_}

@@ -19,7 +19,7 @@ pub enum Message {
     Abort(Heading),
 }
 
-// What the reader answers: the message and its consumed length, or the number of its refusal.
+// What the reader answers: the message and its length, or the number of its refusal.
 pub enum Reading {
     Message(Message, usize),
     Refused(u8),

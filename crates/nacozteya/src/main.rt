@@ -1,4 +1,4 @@
-// The program: reads messages from standard input, sends them to a fresh register and prints its entries (document 01, "The program").
+// The program: reads messages from standard input, sends them to a fresh register and prints its entries (docs/REGISTER.md, 12).
 mod text;
 
 use entry::EntryReading;

@@ -245,7 +245,7 @@ module _ (account : ℕ) where
       let tail : map (entryThrough forget) xs ≡ map (entryThrough forget) xs′ = cc in
       entry account (entryOf x) (entryOf x′) (rule-entry-same x x′ head) (entries-same xs xs′ tail)
 
--- entries equal but for the seconds are as long as each other
+-- entries that agree but for their seconds are as long as each other
 pub same-length : {bytes bytes′ : List ℕ} → SameEntries bytes bytes′ → length bytes ≡ length bytes′
 same-length no-entry = refl
 same-length (entry account e e′ {rest = rest} {rest′ = rest′} other more) =

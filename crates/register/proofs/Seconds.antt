@@ -1,5 +1,5 @@
--- The seconds never matter: two registers whose accounts are in order and have lists that differ only in their seconds stay so when they are sent messages that differ
--- only in their seconds. What is read differs only in the second; the rule never looks at what is filed, so its two answers are the same with every second forgotten;
+-- The seconds never matter: two registers whose accounts are in order and have lists that agree but for their seconds stay so when they are sent messages that agree
+-- but for theirs. What is read differs only in the second; the rule never looks at what is filed, so its two answers are the same with every second forgotten;
 -- and so are the bytes of the entries. A sequence by induction.
 -- Assumes nothing.
 use Prim.Native.Nat.{ℕ, _≤_}
@@ -75,7 +75,7 @@ module _ (a a′ : RuleAccount) (m m′ : rule.Message ℕ Event) (accounts : ac
   account-same =
       sym (never-looked panel forget a m .account) ∙ ap (λ (c : rule-call.Called ℕ State Event ℕ). c .account) called-same ∙ never-looked panel forget a′ m′ .account
 
--- accounts of lists in order that differ only in their seconds
+-- accounts of lists in order that agree but for their seconds
 lists-same : (a a′ : RuleAccount) → rule-order.order panel a ≡ true → rule-order.order panel a′ ≡ true → accountThrough forget a ≡ accountThrough forget a′
     → SameAccount (accountOf a) (accountOf a′)
 lists-same a a′ o o′ h =

@@ -1,4 +1,4 @@
--- The table of messages gives each kind the length that the document gives it: by the kind's two tests, and by the rows one by one.
+-- The table of messages gives each kind its length: by the kind's two tests, and by the rows one by one.
 -- Assumes nothing.
 use Prim.Native.Nat.{ℕ, _+_, _<_}
 use mathlib.Core.Path.{_≡_, refl, sym, _∙_, ap, subst}

@@ -1,4 +1,4 @@
--- A call of the register: message bytes and an entry buffer in; an answer, a register and the buffer out (document 01, "Bytes" and "Numbers given when a call is not taken").
+-- A call of the register: message bytes and an entry buffer in; an answer, a register and the buffer out (docs/REGISTER.md, 10.1 and 11.1).
 -- Assumes nothing.
 use Prim.Native.Nat.{ℕ}
 use mathlib.Core.Bool.{cond}
@@ -23,12 +23,12 @@ use Rattle.register.specs.declared.Answer.{Answer}
 use Rattle.register.specs.declared.Answer.the-variants.{Refused, Taken}
 use Rattle.register.specs.Register.{accountAt, withAccount, stepBy}
 
--- what document 01 says of a call's answer: the number of its refusal, if it is one
+-- what a call's answer says: the number of its refusal, if it is one;
 abbrev pub refusalOf : Answer → Option ℕ
 refusalOf (Refused n) = some n
 refusalOf (Taken consumed written) = none
 
--- "A call that is taken gives the consumed length and the length written"; a refusal "returns its number and consumed length 0" and writes nothing
+-- how many bytes the message had, and how many bytes of entries were written: both 0 for a refusal
 abbrev pub consumedOf : Answer → ℕ
 consumedOf (Refused n) = 0
 consumedOf (Taken consumed written) = consumed
@@ -52,12 +52,12 @@ pub record Result : Type 0 where
   pub register : Register
   pub buffer : List ℕ
 
--- a refusal "leaves the register and each buffer unchanged"
+-- a refusal leaves register and buffer as they were (10.1)
 abbrev pub refusedWith : Register → (buffer : List ℕ) (number : ℕ) → Result
 refusedWith r buffer n = record { answer = Refused n; register = r; buffer = buffer }
 
--- the named account's own answer: its refusal, or the account that follows in its place and the entries at the beginning of the buffer:
--- "Buffer bytes after the length written stay."
+-- the named account's own answer: its refusal, or the account that follows in its place and the entries at the beginning of the buffer,
+-- which is as it was behind them
 abbrev pub afterStep : Register → (buffer : List ℕ) (account consumed : ℕ) → StepAnswer → Account → Entries → Result
 afterStep r buffer i consumed (Step′.Refused n) next entries = refusedWith r buffer n
 afterStep r buffer i consumed Step′.Taken next entries =
@@ -67,7 +67,7 @@ afterStep r buffer i consumed Step′.Taken next entries =
       buffer = laidOver (bytesOfEntries i (listOf entries)) buffer;
     }
 
--- a message that was read: 4, "entry buffer under 315 bytes", then what the named account answers
+-- a message that was read: 4, which does not depend on what would be written (10.2), then what the named account answers
 unfoldable pub afterMessage : Register → (buffer : List ℕ) → Message → (consumed : ℕ) → Result
 afterMessage r buffer m consumed =
     let i = headingOf m .account in
@@ -79,6 +79,6 @@ abbrev pub afterReading : Register → (buffer : List ℕ) → Reading → Resul
 afterReading r buffer (Reading′.Refused n) = refusedWith r buffer n
 afterReading r buffer (Reading′.Message m consumed) = afterMessage r buffer m consumed
 
--- the call: "1 for an empty message, 2, 1 for a short one, 3, 4, 5, then 6 before 7, or one of 8 to 11"
+-- the call: the reader's refusals, then that of the buffer, then those of the account
 unfoldable pub callOf : Register → (bytes buffer : List ℕ) → Result
 callOf r bytes buffer = afterReading r buffer (readOf bytes)

@@ -1,4 +1,4 @@
--- The three demands, over byte strings, buffers and the answers of the public calls, from the register that `fresh` returns.
+-- The three demands (docs/REGISTER.md, 13), over byte strings, buffers and the answers of the public calls, from the register that `fresh` returns.
 -- Assumes nothing.
 use Prim.Native.Nat.{ℕ, _<_, _≤_}
 use mathlib.Core.Path.{_≡_}
@@ -35,7 +35,7 @@ use Rattle.register.specs.Refusals.{accountIn, standingAt, CallRefuses, 
 use Rattle.register.specs.Own.{EachOwnEntry, Brings}
 use Rattle.register.specs.Unchanged.{Refusal, Taking}
 
--- what a call gives, by what document 01 says of its answer
+-- what a call gives, by what its answer says
 pub record Gives (result : Result) (refusal : Option ℕ) (consumed written : ℕ) (register : Register) (buffer : List ℕ) : Type 0 where
   pub refusal′ : refusalOf (result .answer) ≡ refusal
   pub consumed′ : consumedOf (result .answer) ≡ consumed
@@ -65,7 +65,7 @@ abbrev pub ByteStrings : List Input → Type 0
 ByteStrings [] = Unit {0}
 ByteStrings (x ∷ xs) = AreBytes (x .message) × ByteStrings xs
 
--- Demand 1: every register, message and buffer.
+-- Demand 1 (13.1): every register, message and buffer.
 pub record Demand1 : Type 0 where
   -- the register to begin with: sixteen new accounts, every place of each blank;
   pub fresh : freshRegister ≡ record { accounts = replicate 16 freshAccount }
@@ -77,7 +77,7 @@ pub record Demand1 : Type 0 where
   -- and what the outcome question answers
   pub asked : OutlookTells
 
--- Demand 2. Each request is decided as the rule says: of a message that was read, with room for its entries, to an account in order, the account that follows and the answer
+-- Demand 2 (13.2). Each request is decided as the rule says: of a message that was read, with room for its entries, to an account in order, the account that follows and the answer
 -- are those of the rule's call on the account's lists.
 abbrev pub AsTheRule : Type 0
 AsTheRule =
@@ -85,7 +85,7 @@ AsTheRule =
     → orderOf (standingAt r (accountIn bytes)) ≡ true
     → Ruled r buffer (accountIn bytes) consumed (call panel (listsOf (standingAt r (accountIn bytes))) (ruleMessage m)) (callOf r bytes buffer)
 
--- "Two message sequences that differ only in their seconds, each sent to a fresh register with equal buffers, receive equal answers, and entries equal but for the seconds."
+-- of two sequences to fresh registers that are the same but for their seconds, the answers are the same, and the entries but for their seconds
 abbrev pub SecondsNeverMatter : Type 0
 SecondsNeverMatter =
     (inputs inputs′ : List Input) → OtherSeconds inputs inputs′
@@ -96,15 +96,15 @@ pub record Demand2 : Type 0 where
   -- the rule gets the message's own numbers, its second among them, and the call's own entry shows them
   pub brought : (t i s : ℕ) → Brings t i s
   pub own : EachOwnEntry
-  -- "accepted if its guard holds in every outcome, rejected if in none, held if in some only", by the outcomes' numbers, and each exactly if;
+  -- each vote exactly if the guard, looked at in all outcomes by their numbers, says so (4.5);
   pub weighed : (e : Event) (progress : List RuleSlot) (s : State) → Exact panel e progress s
-  -- what is held without being weighed, and the count of those that are weighed, 2 to the power u;
+  -- what is held unweighed, and the count of those that are weighed (4.4 and 4.5);
   pub counted : (e : Event) (s : State) (progress held : List RuleSlot) → Decided panel e s progress held
-  -- what the numbers of outcomes say;
+  -- what the numbers of outcomes say (4.2 and 4.3);
   pub numbers : (progress : List RuleSlot) (s : State) → Numbered panel progress s
-  -- "with the guards and effects of the listed events": wherever a guard holds, the effect is the table's
+  -- wherever a guard holds, the effect is the table's (3.1)
   pub effects : (e : Event) (s : State) → guardOf e s ≡ true → panel .effect e s ≡ tableEffect e s
-  -- "Messages are written and read by the listed layout, each the inverse of the other."
+  -- reading and writing of messages undo each other (8.3)
   pub written-read : ReadsWritten
   pub read-written : WritesRead
   pub seconds : SecondsNeverMatter
@@ -113,7 +113,7 @@ pub record Demand2 : Type 0 where
 abbrev pub SerialPast : List Input → (account : ℕ) → Type 0
 SerialPast inputs i = rule.Demand3 panel (listsOf (standingAt (after freshRegister inputs) i)) (seenBy i (exchanges freshRegister inputs))
 
--- Demand 3: a fresh register after any sequence of calls, some of which may be refused.
+-- Demand 3 (13.3): a fresh register after any sequence of calls, some of which may be refused.
 pub record Demand3 : Type 0 where
   -- each of the sixteen accounts, by what it has seen;
   pub history :

@@ -1,4 +1,4 @@
--- Numbers that fit their bytes: of every event and commit that a message brings, and so of every entry (document 01, "Bytes").
+-- Numbers that fit their bytes: of every event and commit that a message brings, and so of every entry (docs/REGISTER.md, 8.1 and 9.1).
 -- Assumes nothing.
 use Prim.Native.Nat.{ℕ, _<_, _≤_, _^_}
 use Rattle.account.specs.declared.Event.{Event}
@@ -6,14 +6,14 @@ use Rattle.account.specs.declared.State.{State}
 use Rattle.account.specs.Panel.{limit}
 use Rattle.layout.specs.Events.{amountOf}
 
--- "transaction 4 bytes, account 2, second 4, amount 4"
+-- each of these numbers has 4 bytes
 abbrev pub EventFits : ℕ → ℕ → Event → Type 0
 EventFits t g e = (t < 256 ^ 4) × (g < 256 ^ 4) × (amountOf e < 256 ^ 4)
 
 abbrev pub CommitFits : ℕ → ℕ → Type 0
 CommitFits t g = (t < 256 ^ 4) × (g < 256 ^ 4)
 
--- "A balance is 0 to 1,000,000 steps."
+-- the balance is within the limit (2.1), which has room in 4 bytes
 abbrev pub StateFits : State → Type 0
 StateFits s = s .balance ≤ limit
 

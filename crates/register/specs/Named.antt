@@ -1,4 +1,4 @@
--- What a call comes to for the account that it names, whatever the other accounts are.
+-- What a call comes to for the account that it names, whatever the other accounts are (docs/REGISTER.md, 7.2).
 -- Assumes nothing.
 use Prim.Native.Nat.{ℕ, suc, _≤_}
 use mathlib.Core.Path.{_≡_}

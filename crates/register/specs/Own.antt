@@ -1,4 +1,4 @@
--- The entry that a call writes first, its own, byte by byte beside the bytes of its message (document 01, "Bytes"): what is filed is what the message brings.
+-- The entry that a call writes first, its own, byte by byte beside the bytes of its message (docs/REGISTER.md, 9.3 and 9.4): what is filed is what the message brings.
 -- Assumes nothing.
 use Prim.Native.Nat.{ℕ, _≤_}
 use mathlib.Core.Path.{_≡_}

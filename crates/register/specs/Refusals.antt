@@ -1,4 +1,4 @@
--- When a call and the outcome question are refused (document 01, its table of numbers and their order): each as ONE list of tests, on the message's own bytes,
+-- When a call and the outcome question are refused (docs/REGISTER.md, 10.1): each as ONE list of tests, on the message's own bytes,
 -- the buffer's length and the places of the account that is named; and what the outcome question tells where no test holds.
 -- Assumes nothing.
 use Prim.Native.Nat.{ℕ, _+_, _*_, _^_}
@@ -76,7 +76,7 @@ callTests r bytes buffer =
     test (eqb kind 6 && isCommitted a t) 11 ∷
     []
 
--- "Given exactly if", of every number: the first test that holds, and no number if none does
+-- a call is refused with the number of the first test that holds, and not at all if none does
 abbrev pub CallRefuses : Type 0
 CallRefuses = (r : Register) (bytes buffer : List ℕ) → refusalOf (callOf r bytes buffer .answer) ≡ firstOf (callTests r bytes buffer)
 

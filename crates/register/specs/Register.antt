@@ -1,4 +1,4 @@
--- The register: sixteen accounts side by side, and the outcome question (document 01, "An account" and "Numbers given when a call is not taken").
+-- The register: its accounts, which a message names by their numbers, and the outcome question (docs/REGISTER.md, 7, 10.1 and 11.2).
 -- Assumes nothing.
 use Prim.Native.Nat.{ℕ, suc}
 use mathlib.Core.Bool.{cond}
@@ -24,7 +24,7 @@ use Rattle.register.specs.declared.Register.{Register}
 abbrev pub accountsOfRegister : ℕ
 accountsOfRegister = suc lastAccount
 
--- "A fresh register has 16 accounts, numbered 0 to 15, all new, nothing in progress or held."
+-- every account is fresh (7.1 and 2.7)
 unfoldable pub freshRegister : Register
 freshRegister = record { accounts = replicate accountsOfRegister (accountOf (rule.newAccount panel ℕ)) }
 
@@ -50,6 +50,6 @@ ruleMessage (Abort h) = rule.abort (h .transaction) (h .second)
 abbrev pub stepBy : Account → Message → Called
 stepBy a m = stepOf a (ruleMessage m)
 
--- the outcome question: "3, 5, 12"
+-- the outcome question: 3, then the account's own answer, which may be 5 or 12
 unfoldable pub outlookIn : Register → (account number : ℕ) → Outlook
 outlookIn r i n = cond (ltb lastAccount i) (Outlook′.Refused 3) (outlookOf (accountAt r i) n)

@@ -1,4 +1,4 @@
--- A run of messages through a fresh register (document 01, "The program"): what is met and refused, how far the messages and the entries go, and the whole entry buffer.
+-- A run of messages through a fresh register (docs/REGISTER.md, 11.5): what is met and refused, how far the messages and the entries go, and the whole entry buffer.
 -- Assumes nothing.
 use Prim.Native.Nat.{ℕ, zero, suc, _+_, _≤_, _<_, _^_}
 use mathlib.Core.Path.{_≡_}
@@ -22,7 +22,7 @@ pub record Run : Type 0 where
   pub counts : Ran
   pub entries : List ℕ
 
--- "Where no byte is left, the input has ended and nothing is refused."
+-- no message is left
 abbrev pub nothing : Ran
 nothing = record { met = 0; refused = 0; consumed = 0; written = 0 }
 
@@ -38,13 +38,13 @@ abbrev pub answerNumber : Answer → ℕ
 answerNumber (Refused n) = n
 answerNumber (Taken consumed written) = 0
 
--- what a message comes to: "after 1 or 2 it stops reading .., after others it skips that message by its length"
+-- what a message comes to: the run stops at refusals 1 and 2, and passes over a message that got another
 abbrev pub passedOf : Answer → (whole : ℕ) → Passed
 passedOf (Taken consumed written) whole = record { refused = 0; consumed = consumed; written = written; stops = false }
 passedOf (Refused n) whole =
     cond (leb n 2) (record { refused = 1; consumed = 0; written = 0; stops = true }) (record { refused = 1; consumed = whole; written = 0; stops = false })
 
--- the counts of one message: "A refused message counts in both numbers."
+-- the counts of one message: it was met, whether it is refused or not
 abbrev pub one : Passed → Ran
 one passed = record { met = 1; refused = passed .refused; consumed = passed .consumed; written = passed .written }
 
@@ -66,7 +66,7 @@ joined a b = record { counts = added (a .counts) (b .counts); entries = a .entri
 abbrev pub first : Passed → (buffer : List ℕ) → Run
 first passed buffer = record { counts = one passed; entries = take (passed .written) buffer }
 
--- one turn: the register gets the message that the bytes begin with; "The next message starts .. just after the last one", and so do its entries
+-- one turn: the register gets the message that the bytes begin with; behind it the next message starts, and behind its entries those of the next
 abbrev pub turnOf : (rest : Register → (bytes buffer : List ℕ) → Run) → Register → (bytes buffer : List ℕ) → Run
 turnOf rest r bytes buffer =
     let called = callOf r bytes buffer in
@@ -80,11 +80,11 @@ unfoldable pub runFrom : (most : ℕ) → Register → (bytes buffer : List ℕ)
 runFrom zero r bytes buffer = ended buffer
 runFrom (suc most) r bytes buffer = turnOf (λ (next : Register) (bytes′ buffer′ : List ℕ). runFrom most next bytes′ buffer′) r bytes buffer
 
--- "starts fresh"; there are no more messages than bytes
+-- from a fresh register on; there are no more messages than bytes
 unfoldable pub runOf : (bytes buffer : List ℕ) → Run
 runOf bytes buffer = runFrom (length bytes) freshRegister bytes buffer
 
--- no message: "nothing is refused", and the entry buffer stays
+-- no message: nothing is counted, and the entry buffer stays
 abbrev pub EmptyRun : Type 0
 EmptyRun = (buffer : List ℕ) → runOf [] buffer ≡ record { counts = record { met = 0; refused = 0; consumed = 0; written = 0 }; entries = buffer }
 
@@ -92,7 +92,7 @@ EmptyRun = (buffer : List ℕ) → runOf [] buffer ≡ record { counts = record 
 abbrev pub BoundNeverMatters : Type 0
 BoundNeverMatters = (most : ℕ) (r : Register) (bytes buffer : List ℕ) → length bytes ≤ most → runFrom most r bytes buffer ≡ runFrom (length bytes) r bytes buffer
 
--- what a run keeps to: "Buffer bytes after the length written stay", no more is passed than there is, and no more is refused than met
+-- what a run keeps to: the buffer is as it was behind the entries, no more is passed than there is, and no more is refused than met
 pub record Kept (bytes buffer : List ℕ) (run : Run) : Type 0 where
   pub size : length (run .entries) ≡ length buffer
   pub room : run .counts .written ≤ length buffer

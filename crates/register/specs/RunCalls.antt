@@ -1,5 +1,5 @@
--- A run is its calls: which calls of a fresh register it makes, where it stops, and what its numbers and its buffer are by what is seen of those calls.
--- Nothing here goes by how a run is defined; the numbers are document 01's own ("The program").
+-- A run is its calls (docs/REGISTER.md, 11.5): which calls of a fresh register it makes, where it stops, and what its numbers and its buffer are by what is seen of those
+-- calls. Nothing here goes by how a run is defined.
 -- Assumes nothing.
 use Prim.Native.Nat.{ℕ, _+_, _≤_, _<_}
 use mathlib.Core.Path.{_≡_}
@@ -20,14 +20,14 @@ use Rattle.register.specs.Run.{Run, runOf, numbersOf}
 pub data Calls : (bytes buffer : List ℕ) → List Input → List Exchange → (passed : ℕ) → Type 0 where
   -- no byte is left
   ended : {buffer : List ℕ} → Calls [] buffer [] [] 0
-  -- "after 1 or 2 it stops reading"
+  -- a message that is refused with 1 or 2 is the last
   stopped : {bytes buffer : List ℕ} {x : Exchange} (n : ℕ) → 0 < length bytes → x .answer ≡ Refused n → (n ≡ 1) ⊎ (n ≡ 2)
       → Calls bytes buffer (record { message = bytes; buffer = buffer } ∷ []) (x ∷ []) 0
   -- after any other refusal the message is skipped by its length, and the buffer is the same
   skipped : {bytes buffer : List ℕ} {x : Exchange} {inputs : List Input} {seen : List Exchange} {passed : ℕ} (n whole : ℕ)
       → x .answer ≡ Refused n → 3 ≤ n → Whole bytes whole → Calls (drop whole bytes) buffer inputs seen passed
       → Calls bytes buffer (record { message = bytes; buffer = buffer } ∷ inputs) (x ∷ seen) (whole + passed)
-  -- "The next message starts .. just after the last one", and its entries start just after the last ones, in the buffer that the call left
+  -- the next message starts behind this one, and its entries behind these, in the buffer that the call left
   taken : {bytes buffer : List ℕ} {x : Exchange} {inputs : List Input} {seen : List Exchange} {passed : ℕ} (whole written : ℕ)
       → x .answer ≡ Taken whole written → Whole bytes whole → Calls (drop whole bytes) (drop written (x .buffer)) inputs seen passed
       → Calls bytes buffer (record { message = bytes; buffer = buffer } ∷ inputs) (x ∷ seen) (whole + passed)
@@ -52,7 +52,7 @@ entriesAmong (x ∷ xs) = writtenPart (x .answer) (x .buffer) ++ entriesAmong xs
 
 -- a run's numbers, in the order in which a caller from outside gets them, and every byte of its buffer, by the calls seen
 pub record Sums (buffer : List ℕ) (seen : List Exchange) (passed : ℕ) (run : Run) : Type 0 where
-  -- "messages met and messages refused", where "A refused message counts in both numbers"; the bytes passed; the bytes written
+  -- messages met, refused ones among them; messages refused; bytes passed; bytes written
   pub counts : run .counts ≡ record { met = length seen; refused = refusedAmong seen; consumed = passed; written = length (entriesAmong seen) }
   pub exported : numbersOf (run .counts) ≡ length seen ∷ refusedAmong seen ∷ passed ∷ length (entriesAmong seen) ∷ []
   -- the entries, and the rest of the buffer as it was
@@ -64,11 +64,11 @@ pub record IsCalls (r : Register) (bytes buffer : List ℕ) (run : Run) : Type 0
   pub calls : Calls bytes buffer inputs (exchanges r inputs) passed
   pub sums : Sums buffer (exchanges r inputs) passed run
 
--- every run is its calls of a fresh register: "starts fresh"
+-- every run is its calls of a fresh register
 abbrev pub RunIsItsCalls : Type 0
 RunIsItsCalls = (bytes buffer : List ℕ) → IsCalls freshRegister bytes buffer (runOf bytes buffer)
 
--- Demand 3 of a run, which is what is exported: of each of the sixteen accounts after its calls, by what was seen of them.
+-- Demand 3 (13.3) of a run, which is what is exported: of each of the sixteen accounts after its calls, by what was seen of them.
 abbrev pub RunDemand3 : Type 0
 RunDemand3 =
     (bytes buffer : List ℕ) → AreBytes bytes → (i : ℕ) → i < 16 → (inputs : List Input) (passed : ℕ)

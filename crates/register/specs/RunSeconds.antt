@@ -1,4 +1,4 @@
--- The seconds never matter in a run (demand 2 of what is exported): two byte strings whose messages, one after the other, differ only in their seconds.
+-- The seconds never matter in a run (docs/REGISTER.md, 13.2, of what is exported): two byte strings whose messages, one after the other, differ only in their seconds.
 -- Assumes nothing.
 use Prim.Native.Nat.{ℕ, _≤_}
 use mathlib.Core.Path.{_≡_}
@@ -13,7 +13,7 @@ pub data SameMessages : (bytes bytes′ : List ℕ) → Type 0 where
   same-messages : {bytes bytes′ : List ℕ} → SameMessage bytes bytes′
       → ((whole : ℕ) → Whole bytes whole → whole ≤ length bytes → SameMessages (drop whole bytes) (drop whole bytes′)) → SameMessages bytes bytes′
 
--- equal numbers, "entries equal but for the seconds", and the rest of the buffers equal
+-- equal numbers, the same entries but for their seconds, and the rest of the buffers equal
 pub record SameRun (x y : Run) : Type 0 where
   pub counts : x .counts ≡ y .counts
   pub entries : SameEntries (take (x .counts .written) (x .entries)) (take (y .counts .written) (y .entries))

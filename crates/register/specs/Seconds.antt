@@ -1,5 +1,5 @@
--- The seconds never matter (demand 2): "Two message sequences that differ only in their seconds, each sent to a fresh register with equal buffers, receive equal answers,
--- and entries equal but for the seconds." Messages are compared within their whole length, so that this is said of the calls of a run too.
+-- The seconds never matter (docs/REGISTER.md, 13.2): which sequences of calls are the same but for the seconds in their messages, and what is the same in their answers and
+-- entries. Messages are compared within their whole length, so that this is said of the calls of a run too.
 -- Assumes nothing.
 use Prim.Native.Nat.{ℕ, _≤_}
 use mathlib.Core.Path.{_≡_}
@@ -30,18 +30,18 @@ pub record SameMessage (bytes bytes′ : List ℕ) : Type 0 where
 abbrev pub WholeStrings : Type 0
 WholeStrings = (bytes bytes′ : List ℕ) → OtherSecond bytes bytes′ → SameMessage bytes bytes′
 
--- "Two message sequences that differ only in their seconds .. with equal buffers"
+-- sequences whose messages are the same but for their seconds, and whose buffers are equal
 pub data OtherSeconds : List Input → List Input → Type 0 where
   none : OtherSeconds [] []
   one-more : {x y : Input} {xs ys : List Input} → SameMessage (x .message) (y .message) → x .buffer ≡ y .buffer → OtherSeconds xs ys → OtherSeconds (x ∷ xs) (y ∷ ys)
 
--- entries one after the other, "equal but for the seconds"
+-- entries one after the other, the same but for their seconds
 pub data SameEntries : List ℕ → List ℕ → Type 0 where
   no-entry : SameEntries [] []
   entry : (account : ℕ) (e e′ : Entry) {rest rest′ : List ℕ} → OtherSecond (bytesOfEntry account e) (bytesOfEntry account e′) → SameEntries rest rest′
       → SameEntries (bytesOfEntry account e ++ rest) (bytesOfEntry account e′ ++ rest′)
 
--- "equal answers, and entries equal but for the seconds"; the rest of the buffers is equal
+-- the same answer, the same entries but for their seconds, and the rest of the buffers equal
 pub record SameExchange (x y : Exchange) : Type 0 where
   pub answers : x .answer ≡ y .answer
   pub entries : SameEntries (take (writtenOf (x .answer)) (x .buffer)) (take (writtenOf (y .answer)) (y .buffer))

@@ -1,4 +1,4 @@
--- Sequences of calls, and what can be seen of them in bytes: the messages sent, the answers, and the entries in the buffers.
+-- Sequences of calls, and what can be seen of them in bytes: the messages sent, the answers, and the entries in the buffers (docs/REGISTER.md, 13.3).
 -- Assumes nothing.
 use Prim.Native.Nat.{ℕ, zero, suc}
 use mathlib.Core.Path.{_≡_}
@@ -80,7 +80,7 @@ entriesFrom (suc most) bytes = readOn bytes (λ (rest : List ℕ). entriesFrom m
 abbrev pub entriesIn : List ℕ → List RuleEntry
 entriesIn bytes = entriesFrom (length bytes) bytes
 
--- the answer to an account: the number of a refusal, or the entries that stand in the first part of the buffer
+-- the answer to an account: the number of a refusal, or the entries that the buffer begins with
 abbrev pub answerIn : Answer → (buffer : List ℕ) → rule-call.Answer ℕ Event ℕ
 answerIn (Refused n) buffer = rule-call.refused n
 answerIn (Taken consumed written) buffer = rule-call.taken (entriesIn (take written buffer))

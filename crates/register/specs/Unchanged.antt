@@ -1,4 +1,4 @@
--- What a call leaves (demand 1): all of it where it refuses; where it takes its message, every other account and the rest of the buffer. Both by what document 01 says of an answer.
+-- What a call leaves (docs/REGISTER.md, 13.1): all of it where it refuses; where it takes its message, every other account and the rest of the buffer. Both by what its answer says.
 -- Assumes nothing.
 use Prim.Native.Nat.{ℕ, _≤_}
 use mathlib.Core.Path.{_≡_}

@@ -1,4 +1,4 @@
-// The register: sixteen accounts side by side. A message changes the one that it names, in its place.
+// The register: sixteen accounts, and its public calls (docs/REGISTER.md, 7 and 11). A message changes the account that it names, in its place.
 mod export;
 mod named;
 mod place;
@@ -17,7 +17,7 @@ pub struct Register {
     pub accounts: [Account; Register::ACCOUNTS],
 }
 
-// What a call answers: the number of its refusal, or the consumed length and the length written.
+// What a call answers: the number of its refusal, or how many bytes the message had and how many bytes of entries were written.
 pub enum Answer {
     Refused(u8),
     Taken(usize, usize),
@@ -33,7 +33,7 @@ impl Register {
     // The accounts side by side, numbered from 0.
     pub const ACCOUNTS: usize = layout::LAST_ACCOUNT as usize + 1;
 
-    // A fresh register: every account new, nothing in progress or held.
+    // A fresh register: every account is fresh.
     pub fn fresh() -> Register
         ensures { λ r. ⌜ r ≡ freshRegister ⌝ }
     {
@@ -57,7 +57,7 @@ impl Register {
         }
     }
 
-    // The outcome question: refused with 3, 5 or 12, in that order, or the state in that outcome and how many undecided events it applies.
+    // The outcome question: refused with 3, 5 or 12, the first that applies, or the state there and the number of undecided events that are applied in it.
     pub fn outlook(self, account: u16, number: u32) -> Outlook
         ensures { λ r. ⌜ r ≡ outlookIn self account number ⌝ }
     {

@@ -1,4 +1,4 @@
-// The account that a message names, changed in its place (document 01, "An account").
+// The account that a message names, changed in its place (docs/REGISTER.md, 7.2).
 use crate::Register;
 use account::Account;
 ghost use mathlib.Core.Path.{_≡_};

@@ -1,4 +1,4 @@
-// A run of messages: they are sent to a fresh register one after the other, as the program does (document 01, "The program").
+// A run of messages: they are sent to a fresh register one after the other, as the program does (docs/REGISTER.md, 11.5).
 use crate::Answer;
 use crate::Register;
 use crate::named;
