@@ -14,18 +14,7 @@ pub struct Example {
 }
 
 /// The program's sample, whole.
-pub const SAMPLE: &str = "register 1
-accepted 1 0 100 open 100 1
-noted 1 0 100
-applied 1 0 100 open 100 100
-accepted 2 0 100 withdraw 60 1
-held 3 0 100 withdraw 60 2
-dropped 2 0 100 withdraw 60
-accepted 3 0 100 withdraw 60 1
-noted 3 0 100
-applied 3 0 100 withdraw 60 40
-end 6 0
-";
+pub const SAMPLE: &str = include_str!("../../samples/first.text");
 
 /// The sample's messages, and the bytes of its entries as hex.
 const SAMPLE_MESSAGES: &str = "open 1 100, commit 1, withdraw 2 60, withdraw 3 60, abort 2, commit 3";

@@ -13,7 +13,7 @@ pub fn print(found: &Found) -> bool {
         print_tally(tally);
     }
     for example in &found.wrong_examples {
-        println!("document 01, {}: the {} should end in", example.name, example.target.name());
+        println!("docs/REGISTER.md, {}: the {} should end in", example.name, example.target.name());
         println!("{}", example.ends_in);
     }
     for target in &found.wrong_unread {

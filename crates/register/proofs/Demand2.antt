@@ -4,8 +4,8 @@ use mathlib.Core.Path.{refl}
 use Rattle.account.specs.Panel.{panel}
 use Rattle.message.proofs.Inverse.{reads-written, writes-read}
 use Rattle.register.specs.Demands.{Demand2}
-use Rattle.rule.proofs.Exact.{numbered, exact, decided}
-use Rattle.account.proofs.Panel.{effect-table}
+use Rattle.rule.proofs.Exact.{numbered, choices, exact, decided}
+use Rattle.account.proofs.Table.{table-holds, outcomes-of-the-table}
 use Rattle.register.proofs.Seconds.{seconds-never-matter}
 use Rattle.register.proofs.AsTheRule.{as-the-rule}
 use Rattle.register.proofs.Own.{each-own-entry}
@@ -19,7 +19,9 @@ demand2 =
       weighed = exact panel;
       counted = λ e s progress held. decided panel e s progress held;
       numbers = numbered panel;
-      effects = effect-table;
+      choices = choices;
+      table = table-holds;
+      outcomes = outcomes-of-the-table;
       written-read = reads-written;
       read-written = writes-read;
       seconds = seconds-never-matter;

@@ -7,7 +7,7 @@ use mathlib.Core.List.{List, [], _∷_, _++_, map}
 use mathlib.Core.Option.{Option, none, some}
 use lib.ListN.{length, drop, set, replicate}
 use Rattle.rule.specs.Call.{Answer, refused, taken, Called, call}
-use Rattle.rule.specs.Exact.{Numbered, Exact, Decided}
+use Rattle.rule.specs.Exact.{Numbered, Choices, Exact, Decided}
 use Rattle.rule.specs.Demand as rule
 use Rattle.account.specs.declared.Event.{Event}
 use Rattle.account.specs.declared.Event.the-variants.{Open}
@@ -16,7 +16,8 @@ use Rattle.account.specs.declared.Decision.the-variants.{Undecided}
 use Rattle.account.specs.declared.Slot.{Slot}
 use Rattle.account.specs.declared.Account.{Account}
 use Rattle.account.specs.declared.State.{State}
-use Rattle.account.specs.Panel.{guardOf, tableEffect, panel}
+use Rattle.account.specs.Panel.{panel}
+use Rattle.account.specs.Table.{TableHolds, OutcomesOfTheTable}
 use Rattle.account.specs.Places.{RuleSlot, RuleAccount, listsOf, accountOf}
 use Rattle.account.specs.Order.{orderOf}
 use Rattle.account.specs.Steps.{entryOf, toldOf}
@@ -25,6 +26,7 @@ use Rattle.message.specs.declared.Message.{Message}
 use Rattle.message.specs.declared.Reading.the-variants as Reading′
 use Rattle.message.specs.Answers.{readOf}
 use Rattle.message.specs.Inverse.{ReadsWritten, WritesRead}
+use Rattle.message.specs.Refusals.{ReaderRefuses, WriterRefuses}
 use Rattle.entry.specs.Bytes.{bytesOfEntries}
 use Rattle.register.specs.declared.Register.{Register}
 use Rattle.register.specs.Register.{freshRegister, ruleMessage, outlookIn}
@@ -74,8 +76,11 @@ pub record Demand1 : Type 0 where
   -- what a refusal leaves, and what a message that is taken does;
   pub refused : (r : Register) (bytes buffer : List ℕ) (n : ℕ) → refusalOf (callOf r bytes buffer .answer) ≡ some n → Refusal r bytes buffer n
   pub taken : (r : Register) (bytes buffer : List ℕ) → refusalOf (callOf r bytes buffer .answer) ≡ none → Taking r bytes buffer
-  -- and what the outcome question answers
+  -- what the outcome question answers;
   pub asked : OutlookTells
+  -- and when the message reader and the message writer refuse by themselves
+  pub read : ReaderRefuses
+  pub written : WriterRefuses
 
 -- Demand 2 (13.2). Each request is decided as the rule says: of a message that was read, with room for its entries, to an account in order, the account that follows and the answer
 -- are those of the rule's call on the account's lists.
@@ -100,10 +105,12 @@ pub record Demand2 : Type 0 where
   pub weighed : (e : Event) (progress : List RuleSlot) (s : State) → Exact panel e progress s
   -- what is held unweighed, and the count of those that are weighed (4.4 and 4.5);
   pub counted : (e : Event) (s : State) (progress held : List RuleSlot) → Decided panel e s progress held
-  -- what the numbers of outcomes say (4.2 and 4.3);
+  -- what the numbers of outcomes say (4.2 and 4.3), and that each choice among the undecided events has one;
   pub numbers : (progress : List RuleSlot) (s : State) → Numbered panel progress s
-  -- wherever a guard holds, the effect is the table's (3.1)
-  pub effects : (e : Event) (s : State) → guardOf e s ≡ true → panel .effect e s ≡ tableEffect e s
+  pub choices : (u : ℕ) → Choices u
+  -- the table of guards and effects row by row, and that the outcomes of an account in order are the table's (3)
+  pub table : TableHolds
+  pub outcomes : OutcomesOfTheTable
   -- reading and writing of messages undo each other (8.3)
   pub written-read : ReadsWritten
   pub read-written : WritesRead
