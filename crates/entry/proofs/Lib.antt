@@ -15,3 +15,5 @@ pub mod Vectors
 pub mod Plain
 pub mod Finding
 pub mod Printed
+pub mod Forms
+pub mod Quoted

@@ -10,3 +10,4 @@ pub mod Quoted
 pub mod Vectors
 pub mod Plain
 pub mod Lines
+pub mod Forms

@@ -6,3 +6,4 @@ pub mod Tables
 pub mod Events
 pub mod Answers
 pub mod Plain
+pub mod Forms

@@ -5,3 +5,4 @@ pub mod Answers
 pub mod Inverse
 pub mod Plain
 pub mod Vectors
+pub mod Forms

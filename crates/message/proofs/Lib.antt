@@ -6,3 +6,4 @@ pub mod Inverse
 pub mod Refusals
 pub mod Vectors
 pub mod Plain
+pub mod Forms

@@ -4,3 +4,4 @@ pub mod Inverse
 pub mod Plain
 pub mod Refusals
 pub mod Vectors
+pub mod Forms

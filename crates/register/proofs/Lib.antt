@@ -24,3 +24,4 @@ pub mod Alike
 pub mod RunCalls
 pub mod RunSeconds
 pub mod Samples
+pub mod Forms

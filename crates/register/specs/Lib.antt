@@ -13,3 +13,4 @@ pub mod Run
 pub mod RunCalls
 pub mod RunSeconds
 pub mod Samples
+pub mod Forms

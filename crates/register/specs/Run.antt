@@ -6,6 +6,7 @@ use mathlib.Core.Bool.{true, false, cond}
 use mathlib.Core.List.{List, [], _∷_, _++_}
 use lib.Dec.{eqb, leb}
 use lib.ListN.{length, take, drop}
+use lib.Seq.{sets}
 use Rattle.layout.specs.Number.{numberAt}
 use Rattle.layout.specs.Fields.{rowOf, wholeOf}
 use Rattle.message.specs.Bytes.{messages}
@@ -114,6 +115,17 @@ BufferNeverShows = (bytes buffer other : List ℕ) → length buffer ≡ length 
 -- the four numbers as a caller from outside gets them
 abbrev pub numbersOf : Ran → List ℕ
 numbersOf ran = ran .met ∷ ran .refused ∷ ran .consumed ∷ ran .written ∷ []
+
+-- what is exported: the length of the entries written, the entry buffer, and the four numbers over the first places for counts, as many as there are
+pub record Exported : Type 0 where
+  pub answer : ℕ
+  pub entries : List ℕ
+  pub counts : List ℕ
+
+abbrev pub exportOf : (messages entries counts : List ℕ) → Exported
+exportOf messages entries counts =
+    let run = runOf messages entries in
+    record { answer = run .counts .written; entries = run .entries; counts = sets counts 0 (numbersOf (run .counts)) }
 
 -- the counts that fit a machine's word with one message more
 pub record Countable (ran : Ran) (passed : Passed) : Type 0 where

@@ -2,13 +2,12 @@
 use crate::runs;
 ghost use mathlib.Core.Path.{_≡_};
 ghost use lib.ListN.{set};
-ghost use lib.Seq.{sets};
-ghost use Rattle.register.specs.Run.{runOf, numbersOf};
+ghost use Rattle.register.specs.Run.{exportOf};
 
 // The run, with its four numbers in the first places of `counts`, as many as there are; the answer is the length of the entries written.
 #[no_mangle]
 pub extern "C" fn nacozteya_run(messages: &[u8], entries: &mut [u8], counts: &mut [u64]) -> u64
-    ensures { λ r. ⌜ (r ≡ runOf (now (messages .entry)) (now (entries .entry)) .counts .written) × (now (entries .exit) ≡ runOf (now (messages .entry)) (now (entries .entry)) .entries) × (now (counts .exit) ≡ sets (now (counts .entry)) 0 (numbersOf (runOf (now (messages .entry)) (now (entries .entry)) .counts))) ⌝ }
+    ensures { λ r. ⌜ (r ≡ exportOf (now (messages .entry)) (now (entries .entry)) (now (counts .entry)) .answer) × (now (entries .exit) ≡ exportOf (now (messages .entry)) (now (entries .entry)) (now (counts .entry)) .entries) × (now (counts .exit) ≡ exportOf (now (messages .entry)) (now (entries .entry)) (now (counts .entry)) .counts) ⌝ }
 {
     let ran = runs::run(messages, entries);
     put(counts, 0, ran.met as u64);

@@ -1,0 +1,30 @@
+-- Each answer of the entry reader with what is said of it, and what the writer of a call's entries leaves for any account and any numbers, literally (docs/REGISTER.md, 9 and 11.4).
+-- Assumes nothing.
+use Prim.Native.Nat.{ℕ}
+use mathlib.Core.Path.{_≡_}
+use mathlib.Core.List.{List, [], _∷_, _++_, map}
+use mathlib.Core.Option.{none, some}
+use lib.ListN.{length, take}
+use Rattle.account.specs.declared.Entry.{Entry}
+use Rattle.account.specs.declared.Entries.{Entries}
+use Rattle.layout.specs.Answers as Writing′
+use Rattle.entry.specs.declared.EntryReading.the-variants.{Found, Nothing}
+use Rattle.entry.specs.Bytes.{bytesOfEntry}
+use Rattle.entry.specs.Answers.{given, writeOf}
+
+pub record EntryReadingForm : Type 0 where
+  pub found : (e : Entry) (account whole : ℕ) → given (Found e account whole) ≡ record { entry = some e; account = account; length′ = whole }
+  pub nothing : given Nothing ≡ record { entry = none; account = 0; length′ = 0 }
+
+-- strings of bytes, one after the other
+abbrev pub together : List (List ℕ) → List ℕ
+together [] = []
+together (x ∷ xs) = x ++ together xs
+
+-- a buffer that is written begins with the bytes of each entry, under the account that was named
+abbrev pub WriterLeaves : Type 0
+WriterLeaves =
+    (entries : Entries) (account : ℕ) (buffer : List ℕ)
+    → Writing′.given (writeOf entries account buffer .answer) .refusal ≡ none
+    → let bytes = together (map (bytesOfEntry account) (take (entries .count) (entries .at))) in
+    take (length bytes) (writeOf entries account buffer .buffer) ≡ bytes
