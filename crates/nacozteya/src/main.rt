@@ -1,14 +1,14 @@
 // The program: reads messages from standard input, sends them to a fresh register and prints its entries (document 01, "The program").
-mod text;
+mod waiting;
 
 use entry::EntryReading;
 use register::Answer;
 use register::Register;
-use text::least;
-use text::print;
-use text::say;
-use text::say_entry;
-use text::say_number;
+use waiting::least;
+use waiting::print;
+use waiting::say;
+use waiting::say_entry;
+use waiting::say_number;
 ghost use Prim.Native.Nat.{_≤_, _<_};
 ghost use lib.ListN.{length};
 

@@ -1,0 +1,5 @@
+pub mod Texts
+pub mod Lines
+pub mod Decimals
+pub mod Vectors
+pub mod Printed

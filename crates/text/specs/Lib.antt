@@ -1,0 +1,6 @@
+pub mod Text
+pub mod Words
+pub mod Decimal
+pub mod Quoted
+pub mod Vectors
+pub mod Lines
