@@ -3,3 +3,5 @@ pub mod Lines
 pub mod Decimals
 pub mod Vectors
 pub mod Printed
+pub mod Pieces
+pub mod Steps

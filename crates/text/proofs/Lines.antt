@@ -100,21 +100,29 @@ pub write-small : (e : Entry) (account : ℕ) (l : List ℕ) → length l < long
 unfolding writeLineOf
 write-small e account l h = rw (lt-ltb (length l) longestLine h)
 
-pub write-line : (e : Entry) (account a b d : ℕ) (l l₁ l₂ l₃ l₄ : List ℕ) → account < 65536 → longestLine ≤ length l
-    → Put (nameOf (e .told)) 0 8 l a l₁
+-- the pieces of a line are the line
+pub line-put : (e : Entry) (account at a b d : ℕ) (l l₁ l₂ l₃ l₄ : List ℕ) → account < 65536
+    → Put (nameOf (e .told)) at 8 l a l₁
     → Put (spaced (decimal (e .transaction) ∷ decimal account ∷ decimal (e .second) ∷ [])) a 33 l₁ b l₂
     → Put (spaced (thenFields (e .told))) b 31 l₂ d l₃
     → l₄ ≡ sets l₃ d (bytesOf 1 10)
-    → (Writing′.Written (d + 1) ≡ writeLineOf e account l .answer) × (l₄ ≡ writeLineOf e account l .buffer)
-unfolding writeLineOf lineOf
-write-line e account a b d l l₁ l₂ l₃ l₄ h room p q r n =
+    → Put (lineOf account e) at longestLine l (d + 1) l₄
+unfolding lineOf
+line-put e account at a b d l l₁ l₂ l₃ l₄ h p q r n =
     let heading = spaced (decimal (e .transaction) ∷ decimal account ∷ decimal (e .second) ∷ []) in
     let then = spaced (thenFields (e .told)) in
-    let whole : Put (lineOf account e) 0 (8 + (33 + (31 + 1))) l (d + 1) l₄ =
-    put-append (nameOf (e .told)) (heading ++ (then ++ (10 ∷ []))) 0 8 (33 + (31 + 1)) a (d + 1) l l₁ l₄ p
+    let whole : Put (lineOf account e) at (8 + (33 + (31 + 1))) l (d + 1) l₄ =
+    put-append (nameOf (e .told)) (heading ++ (then ++ (10 ∷ []))) at 8 (33 + (31 + 1)) a (d + 1) l l₁ l₄ p
     (put-append heading (then ++ (10 ∷ [])) a 33 (31 + 1) b (d + 1) l₁ l₂ l₄ q
     (put-append then (10 ∷ []) b 31 1 d (d + 1) l₂ l₃ l₄ r (put-byte 10 d l₃ l₄ (lit< tt) n))) in
+    record { place = whole .place; within = omega (arith, whole .place, line-length account e h); stored = whole .stored }
+
+-- and where it has room it is what the writer gives
+pub write-line : (e : Entry) (account d : ℕ) (l l₁ : List ℕ) → account < 65536 → longestLine ≤ length l → Put (lineOf account e) 0 longestLine l d l₁
+    → (Writing′.Written d ≡ writeLineOf e account l .answer) × (l₁ ≡ writeLineOf e account l .buffer)
+unfolding writeLineOf
+write-line e account d l l₁ h room p =
     let fits : length (lineOf account e) ≤ length l = le-trans (line-length account e h) room in
-    let size : d + 1 ≡ length (lineOf account e) = whole .place ∙ zero-add (length (lineOf account e)) in
+    let size : d ≡ length (lineOf account e) = p .place ∙ zero-add (length (lineOf account e)) in
     let t : writeLineOf e account l ≡ wroteOver (lineOf account e) l = rw (le-ltb (length l) longestLine room) in
-    (rw (t, size), rw t (whole .stored ∙ laid-over (lineOf account e) l fits))
+    (rw (t, size), rw t (p .stored ∙ laid-over (lineOf account e) l fits))

@@ -70,8 +70,8 @@ letter-more word i at l l₁ l₂ h b e₁ e₂ =
     (sets-more (take i word) (getD word i 0 ∷ []) l l₁ l₂ at i (length-take-le i word (omega arith)) e₁ (rw (bytesOf-one (getD word i 0) b) at e₂))
 
 -- a whole word
-pub word-put : (word : List ℕ) (i at : ℕ) (l l₁ : List ℕ) → i ≡ length word → length word ≤ 8 → l₁ ≡ sets l at (take i word) → Put word at 8 l (at + i) l₁
-word-put word i at l l₁ h k e =
+pub word-put : (word : List ℕ) (i at : ℕ) (l l₁ : List ℕ) → i ≡ length word → l₁ ≡ sets l at (take i word) → Put word at (length word) l (at + i) l₁
+word-put word i at l l₁ h e =
     record { place = rw h; within = omega arith; stored = rw (← take-length word, ← h) e }
 
 -- ---- fields with a space before each

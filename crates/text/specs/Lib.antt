@@ -4,3 +4,5 @@ pub mod Decimal
 pub mod Quoted
 pub mod Vectors
 pub mod Lines
+pub mod Output
+pub mod Program

@@ -73,3 +73,7 @@ pub record Put (text : List ℕ) (at most : ℕ) (before : List ℕ) (next : ℕ
   pub place : next ≡ at + length text
   pub within : next ≤ at + most
   pub stored : after ≡ sets before at text
+
+-- where text may start: far more than any place that is used, and there for the checker's sums alone
+abbrev pub farthest : ℕ
+farthest = 4_096

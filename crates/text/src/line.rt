@@ -4,7 +4,7 @@ ghost use mathlib.Core.Path.{_≡_};
 ghost use Prim.Native.Nat.{_+_, _≤_, _<_};
 ghost use lib.ListN.{length, take};
 ghost use Rattle.layout.specs.Events.{amountOf};
-ghost use Rattle.text.specs.Text.{decimalIn, decimal, eventName, thenFields, spaced, writeLineOf, Put};
+ghost use Rattle.text.specs.Text.{decimalIn, decimal, eventName, thenFields, spaced, lineOf, longestLine, writeLineOf, Put, farthest};
 use crate::words;
 use crate::words::Word;
 use account::Entry;
@@ -19,17 +19,25 @@ pub fn write_line(entry: Entry, account: u16, buffer: &mut [u8]) -> Writing
     if buffer.len() < crate::LONGEST_LINE {
         return Writing::Refused(4);
     }
+    Writing::Written(put_line(buffer, 0, entry, account))
+}
+
+// Stores the line of an entry of that account from `at` on.
+pub(crate) fn put_line(buffer: &mut [u8], at: usize, entry: Entry, account: u16) -> usize
+    requires { ⌜ at ≤ farthest ⌝ }
+    ensures { λ r. ⌜ Put (lineOf account entry) at longestLine (now (buffer .entry)) r (now (buffer .exit)) ⌝ }
+{
     let told = entry.told;
-    let named = put_word(buffer, 0, words::name(told));
+    let named = put_word(buffer, at, words::name(told));
     let headed = put_heading(buffer, named, entry.transaction, account, entry.second);
     let end = put_then(buffer, headed, told);
     layout::put1(buffer, end, b'\n');
-    Writing::Written(end + 1)
+    end + 1
 }
 
 // Stores transaction, account and second from `at` on.
 fn put_heading(buffer: &mut [u8], at: usize, transaction: u32, account: u16, second: u32) -> usize
-    requires { ⌜ at ≤ 100 ⌝ }
+    requires { ⌜ at ≤ farthest + 100 ⌝ }
     ensures { λ r. ⌜ Put (spaced (decimal transaction ∷ decimal account ∷ decimal second ∷ [])) at 33 (now (buffer .entry)) r (now (buffer .exit)) ⌝ }
 {
     let first = put_number(buffer, at, transaction);
@@ -39,7 +47,7 @@ fn put_heading(buffer: &mut [u8], at: usize, transaction: u32, account: u16, sec
 
 // Stores what follows transaction, account and second from `at` on.
 fn put_then(buffer: &mut [u8], at: usize, told: Told) -> usize
-    requires { ⌜ at ≤ 200 ⌝ }
+    requires { ⌜ at ≤ farthest + 200 ⌝ }
     ensures { λ r. ⌜ Put (spaced (thenFields told)) at 31 (now (buffer .entry)) r (now (buffer .exit)) ⌝ }
 {
     match told {
@@ -54,7 +62,7 @@ fn put_then(buffer: &mut [u8], at: usize, told: Told) -> usize
 
 // Stores an event and the number that follows it from `at` on.
 fn put_with(buffer: &mut [u8], at: usize, event: Event, number: u32) -> usize
-    requires { ⌜ at ≤ 200 ⌝ }
+    requires { ⌜ at ≤ farthest + 200 ⌝ }
     ensures { λ r. ⌜ Put (spaced (eventName event ∷ decimal (amountOf event) ∷ decimal number ∷ [])) at 31 (now (buffer .entry)) r (now (buffer .exit)) ⌝ }
 {
     let next = put_event(buffer, at, event);
@@ -63,7 +71,7 @@ fn put_with(buffer: &mut [u8], at: usize, event: Event, number: u32) -> usize
 
 // Stores an event's name and amount from `at` on.
 fn put_event(buffer: &mut [u8], at: usize, event: Event) -> usize
-    requires { ⌜ at ≤ 200 ⌝ }
+    requires { ⌜ at ≤ farthest + 200 ⌝ }
     ensures { λ r. ⌜ Put (spaced (eventName event ∷ decimal (amountOf event) ∷ [])) at 20 (now (buffer .entry)) r (now (buffer .exit)) ⌝ }
 {
     layout::put1(buffer, at, b' ');
@@ -72,8 +80,8 @@ fn put_event(buffer: &mut [u8], at: usize, event: Event) -> usize
 }
 
 // Stores a space and a number from `at` on.
-fn put_number(buffer: &mut [u8], at: usize, number: u32) -> usize
-    requires { ⌜ at ≤ 400 ⌝ }
+pub(crate) fn put_number(buffer: &mut [u8], at: usize, number: u32) -> usize
+    requires { ⌜ at ≤ farthest + 400 ⌝ }
     ensures { λ r. ⌜ Put (spaced (decimal number ∷ [])) at 11 (now (buffer .entry)) r (now (buffer .exit)) ⌝ }
 {
     layout::put1(buffer, at, b' ');
@@ -82,7 +90,7 @@ fn put_number(buffer: &mut [u8], at: usize, number: u32) -> usize
 
 // Stores the digits of a number from `at` on, at most as many as `places` says.
 fn put_decimal(buffer: &mut [u8], at: usize, places: usize, number: u32) -> usize
-    requires { ⌜ (at ≤ 500) × (places ≤ 10) ⌝ }
+    requires { ⌜ (at ≤ farthest + 500) × (places ≤ 10) ⌝ }
     ensures { λ r. ⌜ Put (decimalIn places number) at places (now (buffer .entry)) r (now (buffer .exit)) ⌝ }
 {
     if places == 0 {
@@ -107,7 +115,7 @@ fn digit(number: u32) -> u8
 
 // Stores a name from `at` on.
 fn put_word(buffer: &mut [u8], at: usize, word: Word) -> usize
-    requires { ⌜ (at ≤ 300) × (word .length ≤ 8) ⌝ }
+    requires { ⌜ (at ≤ farthest + 300) × (word .length ≤ 8) ⌝ }
     ensures { λ r. ⌜ Put (take (word .length) (word .letters)) at 8 (now (buffer .entry)) r (now (buffer .exit)) ⌝ }
 {
     let length = word.length;
@@ -116,9 +124,9 @@ fn put_word(buffer: &mut [u8], at: usize, word: Word) -> usize
 }
 
 // Stores letters from `at` on.
-fn put_letters(buffer: &mut [u8], at: usize, letters: &[u8]) -> usize
-    requires { ⌜ (at ≤ 300) × (length (now letters) ≤ 8) ⌝ }
-    ensures { λ r. ⌜ Put (now (letters .entry)) at 8 (now (buffer .entry)) r (now (buffer .exit)) ⌝ }
+pub(crate) fn put_letters(buffer: &mut [u8], at: usize, letters: &[u8]) -> usize
+    requires { ⌜ (at ≤ farthest + 300) × (length (now letters) ≤ farthest) ⌝ }
+    ensures { λ r. ⌜ Put (now (letters .entry)) at (length (now (letters .entry))) (now (buffer .entry)) r (now (buffer .exit)) ⌝ }
 {
     let mut i: usize = 0;
     while i < letters.len() {

@@ -66,7 +66,7 @@ returns c =
     let a = start .args in
     let i = at-loop .loop .i in
     let n : i ≡ length (a .letters .now) = omega arith in
-    word-put (a .letters .now) i (a .at) (a .buffer .now) (at-loop .loop .buffer) n (start .pre .1) (at-loop .loop .inv .1 .1)
+    word-put (a .letters .now) i (a .at) (a .buffer .now) (at-loop .loop .buffer) n (at-loop .loop .inv .1 .1)
 
 pub put-letters-spec : {M : Type 1} → statement M
 put-letters-spec =

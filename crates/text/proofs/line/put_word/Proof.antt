@@ -4,7 +4,9 @@ use native.Mathlib.Omega.{arith}
 use native.Mathlib.Nat.{sub-zero}
 use mathlib.Core.Path.{_≡_}
 use borrow.Author.Needs.{needs}
-use lib.ListN.{length, length-map}
+use lib.ListN.{length, take, length-map}
+use lib.Seq.{length-take-le}
+use Rattle.text.proofs.Texts.{put-room}
 use Rattle.text.proofs.line.put_word.Statement.{statement}
 use Rattle.text.proofs.line.put_word.Tie as tie
 
@@ -27,7 +29,14 @@ same-length : tie.Need-same-length
 same-length c = search needs
 
 returns : tie.Need-returns
-returns c = rw sub-zero at (c .before .before .put-letters .ensures)
+returns c =
+    let at-put-letters = c .before .before in
+    let start = at-put-letters .before .before .before .before .before .before in
+    let a = start .args in
+    let word = a .word in
+    let places : length (word .letters) ≡ 8 = simp length-map at (start .good .1 .1 .0 .1 .1 .1 .0 .1 .0 .1) in
+    put-room (take (word .length) (word .letters)) (a .at) (length (take (word .length) (word .letters))) 8 (at-put-letters .put-letters .result) (a .buffer .now) (at-put-letters .put-letters .last .0)
+    (rw (length-take-le (word .length) (word .letters) (omega (arith, start .pre .1))) (start .pre .1)) (rw sub-zero at (at-put-letters .put-letters .ensures))
 
 pub put-word-spec : {M : Type 1} → statement M
 put-word-spec =
