@@ -5,3 +5,4 @@ pub mod Vectors
 pub mod Printed
 pub mod Pieces
 pub mod Steps
+pub mod Prints
