@@ -7,13 +7,8 @@ pub mod Reading
 pub mod Inverse
 pub mod Longest
 pub mod CallFits
-pub mod Texts
-pub mod Lines
 pub mod Refusals
-pub mod Decimals
 pub mod Vectors
 pub mod Plain
 pub mod Finding
-pub mod Printed
 pub mod Forms
-pub mod Quoted

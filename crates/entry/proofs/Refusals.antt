@@ -1,11 +1,10 @@
--- The refusals of the two writers are those of their definitions, and what they write fits where they do not refuse.
+-- The refusals of the writer are those of its definition, and what it writes fits where it does not refuse.
 -- Assumes nothing.
 use Prim.Native.Nat.{ℕ}
 use mathlib.Core.Path.{_≡_, refl, ap}
 use mathlib.Core.Bool.{Bool, true, false, cond}
 use mathlib.Core.List.{List}
 use mathlib.Core.Option.{none, some}
-use native.Mathlib.Nat.{le-trans}
 use native.Mathlib.Omega.{arith}
 use borrow.Author.Tests.{ltb-false}
 use lib.Dec.{ltb}
@@ -15,13 +14,11 @@ use Rattle.layout.proofs.Answers.{wrote-stays, cond-stays}
 use Rattle.entry.specs.declared.EntryReading.the-variants.{Found, Nothing}
 use Rattle.entry.specs.Bytes.{bytesOfEntries, listOf}
 use Rattle.entry.specs.Answers.{longestCall, writeOf, Given}
-use Rattle.entry.specs.Text.{lineOf, longestLine, writeLineOf}
-use Rattle.entry.specs.Refusals.{WriterRefuses, WriterStays, ReadingsApart, LineRefuses, LineStays}
-use Rattle.entry.proofs.Lines.{line-length}
+use Rattle.entry.specs.Refusals.{WriterRefuses, WriterStays, ReadingsApart}
 use Rattle.entry.proofs.Plain.{length-bytes}
 
 -- a writer that refuses with 4 by a test
-refuses : (b : Bool) (bytes buffer : List ℕ) → given (cond b (refusedWith 4 buffer) (wroteOver bytes buffer) .answer) .refusal ≡ cond b (some 4) none
+pub refuses : (b : Bool) (bytes buffer : List ℕ) → given (cond b (refusedWith 4 buffer) (wroteOver bytes buffer) .answer) .refusal ≡ cond b (some 4) none
 refuses true bytes buffer = refl
 refuses false bytes buffer = refl
 
@@ -45,16 +42,6 @@ writer-stays entries account buffer =
     let next = cond (ltb (length buffer) (length bytes)) (refusedWith 4 buffer) (wroteOver bytes buffer) in
     cond-stays (ltb (length buffer) longestCall) 4 buffer next
     (λ a. cond-stays (ltb (length buffer) (length bytes)) 4 buffer (wroteOver bytes buffer) (λ b. wrote-stays bytes buffer (ltb-false (length buffer) (length bytes) b)))
-
-pub line-refuses : LineRefuses
-unfolding writeLineOf
-line-refuses e account buffer = refuses (ltb (length buffer) longestLine) (lineOf account e) buffer
-
-pub line-stays : LineStays
-unfolding writeLineOf
-line-stays e account buffer h =
-    cond-stays (ltb (length buffer) longestLine) 4 buffer (wroteOver (lineOf account e) buffer)
-    (λ b. wrote-stays (lineOf account e) buffer (le-trans (line-length account e h) (ltb-false (length buffer) longestLine b)))
 
 pub readings-apart : ReadingsApart
 readings-apart (Found e a n) (Found f b m) q =

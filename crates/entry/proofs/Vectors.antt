@@ -6,10 +6,8 @@ use Rattle.layout.specs.Fields.{written, numbersAt, rowOf}
 use Rattle.layout.specs.Events.{eventOf}
 use Rattle.entry.specs.Bytes.{entryRows, bytesOfEntry, bytesOfEntries, lengthOfTold, toldBy}
 use Rattle.entry.specs.Answers.{readOf, writeOf}
-use Rattle.entry.specs.Text.{decimalIn, lineOf, writeLineOf}
-use Rattle.entry.specs.Quoted.{quoted}
 use Rattle.entry.specs.Vectors.{table, unreads, call, callBytes, VectorsHold}
 
 pub vectors : VectorsHold
-unfolding bytesOf numberAt written numbersAt rowOf eventOf entryRows bytesOfEntry bytesOfEntries lengthOfTold toldBy readOf writeOf decimalIn lineOf writeLineOf quoted table unreads call callBytes
-vectors = record { entries = refl; nothing = refl; answer = refl; left = refl; short = refl; shortLeft = refl; shortLine = refl }
+unfolding bytesOf numberAt written numbersAt rowOf eventOf entryRows bytesOfEntry bytesOfEntries lengthOfTold toldBy readOf writeOf table unreads call callBytes
+vectors = record { entries = refl; nothing = refl; answer = refl; left = refl; short = refl; shortLeft = refl }

@@ -2,12 +2,7 @@ pub mod Bytes
 pub mod Answers
 pub mod Inverse
 pub mod Longest
-pub mod Text
-pub mod Words
-pub mod Decimal
 pub mod Refusals
-pub mod Quoted
 pub mod Vectors
 pub mod Plain
-pub mod Lines
 pub mod Forms

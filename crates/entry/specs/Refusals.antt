@@ -1,18 +1,16 @@
--- When the writers of entries and of lines refuse, and what they leave (docs/REGISTER.md, 10.1 and 11.4).
+-- When the writer of a call's entries refuses, and what it leaves (docs/REGISTER.md, 10.1 and 11.4).
 -- Assumes nothing.
-use Prim.Native.Nat.{ℕ, _<_}
+use Prim.Native.Nat.{ℕ}
 use mathlib.Core.Path.{_≡_}
 use mathlib.Core.List.{List, [], _∷_}
 use lib.Dec.{ltb}
 use lib.ListN.{length, take}
-use Rattle.account.specs.declared.Entry.{Entry}
 use Rattle.account.specs.declared.Entries.{Entries}
 use Rattle.layout.specs.Answers.{given, test, firstOf, Stays}
 use Rattle.entry.specs.declared.EntryReading.{EntryReading}
 use Rattle.entry.specs.Answers as Answers′
 use Rattle.entry.specs.Answers.{writeOf}
 use Rattle.entry.specs.Plain.{lengthsIn}
-use Rattle.entry.specs.Text.{writeLineOf}
 
 -- 4 exactly if the buffer has less than 315 bytes, or if the entries do not fit; of a step's entries the second never holds (Longest)
 abbrev pub WriterRefuses : Type 0
@@ -27,12 +25,3 @@ WriterStays = (entries : Entries) (account : ℕ) (buffer : List ℕ) → Stays 
 -- what is said of the reader's answer tells the answers apart
 abbrev pub ReadingsApart : Type 0
 ReadingsApart = (r s : EntryReading) → Answers′.given r ≡ Answers′.given s → r ≡ s
-
--- a line is refused exactly if the buffer is too short for the longest
-abbrev pub LineRefuses : Type 0
-LineRefuses =
-    (e : Entry) (account : ℕ) (buffer : List ℕ) → given (writeLineOf e account buffer .answer) .refusal ≡ firstOf (test (ltb (length buffer) 68) 4 ∷ [])
-
--- an account's number has 2 bytes
-abbrev pub LineStays : Type 0
-LineStays = (e : Entry) (account : ℕ) (buffer : List ℕ) → account < 65_536 → Stays buffer (writeLineOf e account buffer)

@@ -1,13 +1,12 @@
--- Entries as literal bytes and literal lines of text (docs/REGISTER.md, 9.1, 9.6, 12.4 and 12.5): only a literal fixes kinds, lengths, the order of
--- the fields and of the bytes in them, and the words of the text. One table with a row for each kind of entry, each event and each vote, no two
--- bytes of a row alike but zeros; one statement, which antt computes.
+-- Entries as literal bytes: only a literal fixes kinds, lengths, the order of the fields and of the bytes in them (clauses 9.1 and 9.2 of
+-- docs/REGISTER.md). One table with a row for each kind of entry, each event and each vote, no two bytes of a row alike but zeros; one statement,
+-- which antt computes.
 -- Assumes nothing.
-use Prim.Native.Nat.{ℕ, _-_}
-use Prim.Native.String.{String}
+use Prim.Native.Nat.{ℕ}
 use mathlib.Core.Path.{_≡_}
 use mathlib.Core.List.{List, [], _∷_, _++_, map}
 use mathlib.Core.Option.{none, some}
-use lib.ListN.{length, replicate}
+use lib.ListN.{replicate}
 use Rattle.account.specs.declared.Event.the-variants.{Open, Withdraw, Deposit, Close}
 use Rattle.account.specs.declared.Told.{Told}
 use Rattle.account.specs.declared.Told.the-variants.{Accepted, Rejected, Held, Noted, Applied, Dropped}
@@ -16,91 +15,68 @@ use Rattle.account.specs.declared.Entries.{Entries}
 use Rattle.layout.specs.Answers as Writing′
 use Rattle.entry.specs.Bytes.{bytesOfEntry}
 use Rattle.entry.specs.Answers.{Given, given, readOf, writeOf}
-use Rattle.entry.specs.Text.{lineOf, writeLineOf}
-use Rattle.entry.specs.Quoted.{quoted}
 
--- a row: an entry, its account, its length, its bytes, and its line without the newline
+-- a row: an entry, its account, its length and its bytes
 pub record Vector : Type 0 where
   pub entry : Entry
   pub account : ℕ
   pub length′ : ℕ
   pub bytes : List ℕ
-  pub line : String
 
-abbrev pub vector : (account transaction second : ℕ) → Told → (length′ : ℕ) (bytes : List ℕ) (line : String) → Vector
-vector account transaction second told length′ bytes line =
+abbrev pub vector : (account transaction second : ℕ) → Told → (length′ : ℕ) (bytes : List ℕ) → Vector
+vector account transaction second told length′ bytes =
     record {
       entry = record { transaction = transaction; second = second; told = told };
       account = account;
       length′ = length′;
       bytes = bytes;
-      line = line;
     }
 
 unfoldable pub table : List Vector
 table =
     vector 15 0x1a2b3c4d 0x5e6f7081 (Accepted (Open 0x92a3b4c5) 0xd6e7) 18
     (0x11 ∷ 0x1a ∷ 0x2b ∷ 0x3c ∷ 0x4d ∷ 0x00 ∷ 0x0f ∷ 0x5e ∷ 0x6f ∷ 0x70 ∷ 0x81 ∷ 0x01 ∷ 0x92 ∷ 0xa3 ∷ 0xb4 ∷ 0xc5 ∷ 0xd6 ∷ 0xe7 ∷ [])
-    "accepted 439041101 15 1584361601 open 2460202181 55015\n"
     ∷
     vector 14 0x1b2c3d4e 0x5f607182 (Rejected (Withdraw 0x93a4b5c6) 0xd7e8) 18
     (0x12 ∷ 0x1b ∷ 0x2c ∷ 0x3d ∷ 0x4e ∷ 0x00 ∷ 0x0e ∷ 0x5f ∷ 0x60 ∷ 0x71 ∷ 0x82 ∷ 0x02 ∷ 0x93 ∷ 0xa4 ∷ 0xb5 ∷ 0xc6 ∷ 0xd7 ∷ 0xe8 ∷ [])
-    "rejected 455884110 14 1600156034 withdraw 2477045190 55272\n"
     ∷
     vector 13 0x1c2d3e4f 0x50617283 (Held (Deposit 0x94a5b6c7) 0xd8e9) 18
     (0x13 ∷ 0x1c ∷ 0x2d ∷ 0x3e ∷ 0x4f ∷ 0x00 ∷ 0x0d ∷ 0x50 ∷ 0x61 ∷ 0x72 ∷ 0x83 ∷ 0x03 ∷ 0x94 ∷ 0xa5 ∷ 0xb6 ∷ 0xc7 ∷ 0xd8 ∷ 0xe9 ∷ [])
-    "held 472727119 13 1348563587 deposit 2493888199 55529\n"
     ∷
     vector 12 0x1d2e3f40 0x51627384 Noted 11
     (0x14 ∷ 0x1d ∷ 0x2e ∷ 0x3f ∷ 0x40 ∷ 0x00 ∷ 0x0c ∷ 0x51 ∷ 0x62 ∷ 0x73 ∷ 0x84 ∷ [])
-    "noted 489570112 12 1365406596\n"
     ∷
     vector 11 0x1e2f3041 0x52637485 (Applied (Withdraw 0x95a6b7c8) 0xd9eafb0c) 20
     (0x15 ∷ 0x1e ∷ 0x2f ∷ 0x30 ∷ 0x41 ∷ 0x00 ∷ 0x0b ∷ 0x52 ∷ 0x63 ∷ 0x74 ∷ 0x85 ∷ 0x02 ∷ 0x95 ∷ 0xa6 ∷ 0xb7 ∷ 0xc8 ∷ 0xd9 ∷ 0xea ∷ 0xfb ∷ 0x0c ∷ [])
-    "applied 506409025 11 1382249605 withdraw 2510731208 3656055564\n"
     ∷
     vector 10 0x1f203142 0x53647586 (Dropped (Deposit 0x96a7b8c9)) 16
     (0x16 ∷ 0x1f ∷ 0x20 ∷ 0x31 ∷ 0x42 ∷ 0x00 ∷ 0x0a ∷ 0x53 ∷ 0x64 ∷ 0x75 ∷ 0x86 ∷ 0x03 ∷ 0x96 ∷ 0xa7 ∷ 0xb8 ∷ 0xc9 ∷ [])
-    "dropped 522203458 10 1399092614 deposit 2527574217\n"
     ∷
     vector 0 0 0 (Held Close 0) 18
     (0x13 ∷ 0x00 ∷ 0x00 ∷ 0x00 ∷ 0x00 ∷ 0x00 ∷ 0x00 ∷ 0x00 ∷ 0x00 ∷ 0x00 ∷ 0x00 ∷ 0x04 ∷ 0x00 ∷ 0x00 ∷ 0x00 ∷ 0x00 ∷ 0x00 ∷ 0x00 ∷ [])
-    "held 0 0 0 close 0 0\n"
     ∷
     vector 9 10 200 (Applied Close 0) 20
     (0x15 ∷ 0x00 ∷ 0x00 ∷ 0x00 ∷ 0x0a ∷ 0x00 ∷ 0x09 ∷ 0x00 ∷ 0x00 ∷ 0x00 ∷ 0xc8 ∷ 0x04 ∷ 0x00 ∷ 0x00 ∷ 0x00 ∷ 0x00 ∷ 0x00 ∷ 0x00 ∷ 0x00 ∷ 0x00 ∷ [])
-    "applied 10 9 200 close 0 0\n"
     ∷
     []
 
--- what a row comes to: the entry's bytes, what the reader answers to them with one byte behind, the line, and what the writer of lines answers
--- and leaves of a buffer of 70 bytes
+-- what a row comes to: the entry's bytes, and what the reader answers to them with one byte behind
 pub record Found : Type 0 where
   pub bytes : List ℕ
   pub reading : Given
-  pub line : List ℕ
-  pub answer : Writing′.Given
-  pub left : List ℕ
 
 abbrev pub found : Vector → Found
 found v =
     record {
       bytes = bytesOfEntry (v .account) (v .entry);
       reading = given (readOf (v .bytes ++ (0xaa ∷ [])));
-      line = lineOf (v .account) (v .entry);
-      answer = Writing′.given (writeLineOf (v .entry) (v .account) (replicate 70 0xaa) .answer);
-      left = writeLineOf (v .entry) (v .account) (replicate 70 0xaa) .buffer;
     }
 
 abbrev pub said : Vector → Found
 said v =
-    let line = quoted (v .line) in
     record {
       bytes = v .bytes;
       reading = record { entry = some (v .entry); account = v .account; length′ = v .length′ };
-      line = line;
-      answer = record { refusal = none; length′ = length line };
-      left = line ++ replicate (70 - length line) 0xaa;
     }
 
 -- bytes that do not begin with an entry: none at all; kinds below and above; one byte short; accounts 16 and 256; event kinds 0 and 5; a close of 1
@@ -148,5 +124,3 @@ pub record VectorsHold : Type 0 where
   pub left : writeOf call 8 (replicate 315 0xaa) .buffer ≡ callBytes ++ replicate 266 0xaa
   pub short : Writing′.given (writeOf call 8 (replicate 314 0xaa) .answer) ≡ record { refusal = some 4; length′ = 0 }
   pub shortLeft : writeOf call 8 (replicate 314 0xaa) .buffer ≡ replicate 314 0xaa
-  -- a line is refused by 67 bytes
-  pub shortLine : Writing′.given (writeLineOf (entry 1 2 Noted) 3 (replicate 67 0xaa) .answer) ≡ record { refusal = some 4; length′ = 0 }

@@ -1,8 +1,8 @@
 // One field of the register, set to any value: frame 5.
 use crate::Answered;
+use crate::page;
+use crate::page::Page;
 use crate::places;
-use crate::text;
-use crate::text::Page;
 use account::Account;
 use account::Decision;
 use account::Event;
@@ -26,7 +26,7 @@ pub(crate) fn set(register: Register, payload: &[u8], page: &mut Page, at: usize
     let named = places::account_of(register, number);
     if takes(named, field, place, value) {
         let next = with_field(named, field, place, value);
-        let end = text::word(page, at, b"set");
+        let end = page::word(page, at, b"set");
         Answered {
             register: places::with_account(register, number, next),
             at: end,

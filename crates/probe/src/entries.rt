@@ -1,7 +1,7 @@
 // The entry reader, and an entry's line of text: frames 7 and 67.
 use crate::messages;
-use crate::text;
-use crate::text::Page;
+use crate::page;
+use crate::page::Page;
 use account::Entry;
 use account::Event;
 use account::Told;
@@ -12,39 +12,39 @@ use layout::Writing;
 pub(crate) fn read(payload: &[u8], page: &mut Page, at: usize) -> usize {
     let reading = entry::read_entry(payload);
     let EntryReading::Found(found, account, length) = reading else {
-        return text::word(page, at, b"none");
+        return page::word(page, at, b"none");
     };
     let end = put_found(found, account, page, at);
-    text::count(page, end, length)
+    page::count(page, end, length)
 }
 
 // Frame 67: the line of text of an entry.
 pub(crate) fn line(payload: &[u8], page: &mut Page, at: usize) -> usize {
     let reading = entry::read_entry(payload);
     let EntryReading::Found(found, account, _) = reading else {
-        return text::word(page, at, b"none");
+        return page::word(page, at, b"none");
     };
     put_line(found, account, page, at)
 }
 
 // Puts the line of text of an entry, without its newline.
 fn put_line(found: Entry, account: u16, page: &mut Page, at: usize) -> usize {
-    let mut buffer = text::FILLED;
-    let writing = entry::write_line(found, account, &mut buffer);
+    let mut buffer = page::FILLED;
+    let writing = text::write_line(found, account, &mut buffer);
     let Writing::Written(length) = writing else {
-        return text::refused(page, at, messages::number_of(writing));
+        return page::refused(page, at, messages::number_of(writing));
     };
-    text::line(page, at, &buffer, length)
+    page::line(page, at, &buffer, length)
 }
 
 // Puts an entry, with its account.
 fn put_found(found: Entry, account: u16, page: &mut Page, at: usize) -> usize {
     let told = found.told;
-    let end = text::word(page, at, b"entry");
-    let end = text::field(page, end, kind_of(told));
-    let end = text::field(page, end, found.transaction);
-    let end = text::field(page, end, account as u32);
-    let end = text::field(page, end, found.second);
+    let end = page::word(page, at, b"entry");
+    let end = page::field(page, end, kind_of(told));
+    let end = page::field(page, end, found.transaction);
+    let end = page::field(page, end, account as u32);
+    let end = page::field(page, end, found.second);
     put_told(told, page, end, b' ')
 }
 
@@ -56,14 +56,14 @@ pub(crate) fn put_told(told: Told, page: &mut Page, at: usize, separator: u8) ->
         Told::Held(event, weighed) => put_with(event, weighed, page, at, separator),
         Told::Noted => at,
         Told::Applied(event, balance) => put_with(event, balance, page, at, separator),
-        Told::Dropped(event) => text::event(page, at, separator, event),
+        Told::Dropped(event) => page::event(page, at, separator, event),
     }
 }
 
 // Puts an event and the number that follows it.
 fn put_with(event: Event, number: u32, page: &mut Page, at: usize, separator: u8) -> usize {
-    let end = text::event(page, at, separator, event);
-    text::part(page, end, separator, number)
+    let end = page::event(page, at, separator, event);
+    page::part(page, end, separator, number)
 }
 
 // The kind of an entry.

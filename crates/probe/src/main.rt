@@ -3,14 +3,14 @@ mod calls;
 mod disturb;
 mod entries;
 mod messages;
+mod page;
 mod places;
 mod runs;
 mod show;
 mod steps;
-mod text;
 
+use page::Page;
 use register::Register;
-use text::Page;
 ghost use Prim.Native.Nat.{_<_, _≤_};
 ghost use lib.ListN.{length};
 
@@ -26,7 +26,7 @@ pub(crate) struct Answered {
 impl Answered {
     // The answer to a frame that is not listed, or whose payload does not fit: nothing changes.
     pub(crate) fn unknown(register: Register, page: &mut Page, at: usize) -> Answered {
-        let end = text::unknown(page, at);
+        let end = page::unknown(page, at);
         Answered { register, at: end }
     }
 }
@@ -47,15 +47,15 @@ fn main() {
 
 // Writes the text of an input.
 fn drive(input: &[u8]) {
-    let mut page = text::BLANK_PAGE;
-    let end = text::word(&mut page, 0, b"probe 1\n");
+    let mut page = page::BLANK_PAGE;
+    let end = page::word(&mut page, 0, b"probe 1\n");
     if LONGEST < input.len() {
-        let end = text::word(&mut page, end, b"too long\n");
-        text::send(&page, end);
+        let end = page::word(&mut page, end, b"too long\n");
+        page::send(&page, end);
         return;
     }
     let end = lines(input, &mut page, end);
-    text::send(&page, end);
+    page::send(&page, end);
 }
 
 // Puts a line for each frame, from a fresh register on, and the last line.
@@ -77,9 +77,9 @@ fn lines(input: &[u8], page: &mut Page, at: usize) -> usize {
 
 // Puts the last line, with the number of lines for frames.
 fn last(count: usize, page: &mut Page, at: usize) -> usize {
-    let end = text::word(page, at, b"end");
-    let end = text::count(page, end, count);
-    text::put(page, end, b'\n')
+    let end = page::word(page, at, b"end");
+    let end = page::count(page, end, count);
+    page::put(page, end, b'\n')
 }
 
 // Puts the line of the frame that the rest of the input begins with; a torn one takes all that is left.
@@ -90,7 +90,7 @@ fn frame(register: Register, rest: &[u8], page: &mut Page, at: usize) -> Next
     let left = rest.len();
     let whole = whole_length(layout::number2(rest, 1));
     if left < whole {
-        let end = text::word(page, at, b"torn\n");
+        let end = page::word(page, at, b"torn\n");
         return Next {
             register,
             at: end,
@@ -100,7 +100,7 @@ fn frame(register: Register, rest: &[u8], page: &mut Page, at: usize) -> Next
     let code = layout::number1(rest, 0);
     let answered = answer(register, code, &rest[3..whole], page, at);
     let following = answered.register;
-    let end = text::put(page, answered.at, b'\n');
+    let end = page::put(page, answered.at, b'\n');
     Next {
         register: following,
         at: end,
@@ -138,18 +138,18 @@ fn look(register: Register, code: u8, payload: &[u8], page: &mut Page, at: usize
         7 => entries::read(payload, page, at),
         65 => runs::run(payload, page, at),
         67 => entries::line(payload, page, at),
-        _ => text::unknown(page, at),
+        _ => page::unknown(page, at),
     }
 }
 
 // Answers a frame that names an account and nothing else.
 fn look_at(register: Register, code: u8, payload: &[u8], page: &mut Page, at: usize) -> usize {
     if payload.len() != 2 {
-        return text::unknown(page, at);
+        return page::unknown(page, at);
     }
     let number = layout::number2(payload, 0);
     if layout::LAST_ACCOUNT < number {
-        return text::unknown(page, at);
+        return page::unknown(page, at);
     }
     let named = places::account_of(register, number);
     match code {

@@ -1,6 +1,6 @@
 // The message reader and the message writer: frames 3 and 4.
-use crate::text;
-use crate::text::Page;
+use crate::page;
+use crate::page::Page;
 use layout::Writing;
 use message::Heading;
 use message::Message;
@@ -10,11 +10,11 @@ use message::Reading;
 pub(crate) fn read(payload: &[u8], page: &mut Page, at: usize) -> usize {
     let reading = message::read_message(payload);
     let Reading::Message(message, length) = reading else {
-        return text::refused(page, at, refusal_of(reading));
+        return page::refused(page, at, refusal_of(reading));
     };
-    let end = text::word(page, at, b"message");
+    let end = page::word(page, at, b"message");
     let end = put_message(message, page, end);
-    text::count(page, end, length)
+    page::count(page, end, length)
 }
 
 // The number of the reader's refusal; 0 where it gave a message.
@@ -30,25 +30,25 @@ fn put_message(message: Message, page: &mut Page, at: usize) -> usize {
     match message {
         Message::Request(heading, event) => {
             let end = put_heading(layout::event_kind(event), heading, page, at);
-            text::field(page, end, layout::event_amount(event))
+            page::field(page, end, layout::event_amount(event))
         }
         Message::Commit(heading) => {
             let end = put_heading(5, heading, page, at);
-            text::field(page, end, 0)
+            page::field(page, end, 0)
         }
         Message::Abort(heading) => {
             let end = put_heading(6, heading, page, at);
-            text::field(page, end, 0)
+            page::field(page, end, 0)
         }
     }
 }
 
 // Puts a message's kind, transaction, account and second.
 fn put_heading(kind: u8, heading: Heading, page: &mut Page, at: usize) -> usize {
-    let end = text::field(page, at, kind as u32);
-    let end = text::field(page, end, heading.transaction);
-    let end = text::field(page, end, heading.account as u32);
-    text::field(page, end, heading.second)
+    let end = page::field(page, at, kind as u32);
+    let end = page::field(page, end, heading.transaction);
+    let end = page::field(page, end, heading.account as u32);
+    page::field(page, end, heading.second)
 }
 
 // Frame 4: the message writer, with a buffer of that room.
@@ -56,13 +56,13 @@ pub(crate) fn write(payload: &[u8], page: &mut Page, at: usize) -> usize {
     let kind = layout::number1(payload, 0);
     let room = layout::number2(payload, 15) as usize;
     if payload.len() != 17 {
-        return text::unknown(page, at);
+        return page::unknown(page, at);
     }
     if !is_kind(kind) {
-        return text::unknown(page, at);
+        return page::unknown(page, at);
     }
-    if text::WIDEST < room {
-        return text::unknown(page, at);
+    if page::WIDEST < room {
+        return page::unknown(page, at);
     }
     let heading = Heading {
         transaction: layout::number4(payload, 1),
@@ -70,14 +70,14 @@ pub(crate) fn write(payload: &[u8], page: &mut Page, at: usize) -> usize {
         second: layout::number4(payload, 7),
     };
     let message = message_of(kind, heading, layout::number4(payload, 11));
-    let mut buffer = text::FILLED;
+    let mut buffer = page::FILLED;
     let writing = message::write_message(message, &mut buffer[0..room]);
     let Writing::Written(length) = writing else {
-        let end = text::refused(page, at, number_of(writing));
-        return text::kept(page, end, &buffer, 0);
+        let end = page::refused(page, at, number_of(writing));
+        return page::kept(page, end, &buffer, 0);
     };
-    let end = text::word(page, at, b"written");
-    text::written(page, end, &buffer, length)
+    let end = page::word(page, at, b"written");
+    page::written(page, end, &buffer, length)
 }
 
 // The number of a writer's refusal; 0 where it wrote.

@@ -1,26 +1,26 @@
 // An account as it is stored, and whether it is in order: frames 6 and 64.
+use crate::page;
+use crate::page::Page;
 use crate::places;
-use crate::text;
-use crate::text::Page;
 use account::Account;
 use account::Slot;
 
 // Frame 6: life, balance and counts of an account, and each place that is not blank.
 pub(crate) fn stored(account: Account, page: &mut Page, at: usize) -> usize {
     let state = account.state;
-    let end = text::word(page, at, b"account");
-    let end = text::state(page, end, state);
-    let end = text::count(page, end, account.progressing);
-    let end = text::count(page, end, account.holding);
+    let end = page::word(page, at, b"account");
+    let end = page::state(page, end, state);
+    let end = page::count(page, end, account.progressing);
+    let end = page::count(page, end, account.holding);
     put_places(account, page, end)
 }
 
 // Frame 64: whether an account is in order.
 pub(crate) fn order(account: Account, page: &mut Page, at: usize) -> usize {
     if account.in_order() {
-        text::word(page, at, b"order yes")
+        page::word(page, at, b"order yes")
     } else {
-        text::word(page, at, b"order no")
+        page::word(page, at, b"order no")
     }
 }
 
@@ -40,13 +40,13 @@ fn put_place(slot: Slot, place: usize, page: &mut Page, at: usize) -> usize {
     }
     let event = slot.event;
     let decision = slot.decision;
-    let end = text::count(page, at, place);
-    let end = text::part(page, end, b'=', slot.transaction);
-    let end = text::part(page, end, b':', slot.second);
-    let end = text::event(page, end, b':', event);
+    let end = page::count(page, at, place);
+    let end = page::part(page, end, b'=', slot.transaction);
+    let end = page::part(page, end, b':', slot.second);
+    let end = page::event(page, end, b':', event);
     if places::is_undecided(decision) {
-        text::word(page, end, b":u")
+        page::word(page, end, b":u")
     } else {
-        text::word(page, end, b":c")
+        page::word(page, end, b":c")
     }
 }

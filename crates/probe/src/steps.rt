@@ -2,9 +2,9 @@
 use crate::Answered;
 use crate::entries;
 use crate::messages;
+use crate::page;
+use crate::page::Page;
 use crate::places;
-use crate::text;
-use crate::text::Page;
 use account::Account;
 use account::Answer;
 use account::Called;
@@ -50,9 +50,9 @@ fn stepped(account: Account, kind: u8, payload: &[u8]) -> Called {
 // Puts what a step answers.
 fn put_answer(answer: Answer, page: &mut Page, at: usize) -> usize {
     let Answer::Taken = answer else {
-        return text::refused(page, at, number_of(answer));
+        return page::refused(page, at, number_of(answer));
     };
-    text::word(page, at, b"taken")
+    page::word(page, at, b"taken")
 }
 
 // The number of a step's refusal; 0 where it was taken.
@@ -66,7 +66,7 @@ fn number_of(answer: Answer) -> u8 {
 // Puts the number of entries, and each place that is not blank.
 fn put_entries(entries: Entries, page: &mut Page, at: usize) -> usize {
     let all = entries.at;
-    let mut end = text::count(page, at, entries.count);
+    let mut end = page::count(page, at, entries.count);
     for place in 0..Entries::MOST {
         end = put_entry(all[place], place, page, end);
     }
@@ -79,9 +79,9 @@ fn put_entry(entry: Entry, place: usize, page: &mut Page, at: usize) -> usize {
     if (entry.transaction == 0) & (entry.second == 0) & (entries::kind_of(told) == 20) {
         return at;
     }
-    let end = text::count(page, at, place);
-    let end = text::part(page, end, b'=', entries::kind_of(told));
-    let end = text::part(page, end, b':', entry.transaction);
-    let end = text::part(page, end, b':', entry.second);
+    let end = page::count(page, at, place);
+    let end = page::part(page, end, b'=', entries::kind_of(told));
+    let end = page::part(page, end, b':', entry.transaction);
+    let end = page::part(page, end, b':', entry.second);
     entries::put_told(told, page, end, b':')
 }

@@ -1,5 +1,5 @@
--- What the entry buffer held before never shows: two calls with buffers of one length give the same answer, the same register and the same entries, so the rest of the run starts
--- from buffers of one length again. By cases on what was read and on the answer, then by induction on the bound.
+-- What the entry buffer held before never shows: two calls whose buffers both have room for a call, or both have not, give the same answer, the same register and the same entries.
+-- By cases on what was read and on the answer; of runs by induction on the bound, since the rest starts from buffers of one length again.
 -- Assumes nothing.
 use Prim.Native.Nat.{ℕ, zero, suc, _≤_}
 use mathlib.Core.Path.{_≡_, refl, sym, _∙_, ap}
@@ -7,7 +7,7 @@ use mathlib.Core.Bool.{Bool, true, false, cond}
 use mathlib.Core.List.{List, _++_}
 use native.Mathlib.Omega.{arith}
 use lib.Dec.{eqb, ltb}
-use lib.ListN.{length, take, drop, length-append, length-drop}
+use lib.ListN.{length, take, drop, length-drop}
 use lib.Seq.{take-append-add, take-append-seam, length-take-le}
 use Rattle.account.specs.declared.Account.{Account}
 use Rattle.account.specs.declared.Answer.{Answer as StepAnswer}
@@ -29,15 +29,14 @@ use Rattle.register.proofs.Passed.{passed-written}
 use Rattle.register.proofs.Moved.{call-moves}
 
 -- two results that differ at most in buffer bytes after the entries
-record Same (x y : Result) : Type 0 where
-  answer : x .answer ≡ y .answer
-  register : x .register ≡ y .register
-  size : length (x .buffer) ≡ length (y .buffer)
-  entries : take (writtenOf (x .answer)) (x .buffer) ≡ take (writtenOf (x .answer)) (y .buffer)
+pub record Same (x y : Result) : Type 0 where
+  pub answer : x .answer ≡ y .answer
+  pub register : x .register ≡ y .register
+  pub entries : take (writtenOf (x .answer)) (x .buffer) ≡ take (writtenOf (x .answer)) (y .buffer)
 
-module _ (r : Register) (buffer other : List ℕ) (e : length buffer ≡ length other) where
+module _ (r : Register) (buffer other : List ℕ) (e : ltb (length buffer) longestCall ≡ ltb (length other) longestCall) where
   same-refused : (n : ℕ) → Same (refusedWith r buffer n) (refusedWith r other n)
-  same-refused n = record { answer = refl; register = refl; size = e; entries = refl }
+  same-refused n = record { answer = refl; register = refl; entries = refl }
 
   same-step : (i consumed : ℕ) (answer : StepAnswer) (next : Account) (entries : Entries) → Same (afterStep r buffer i consumed answer next entries) (afterStep r other i consumed answer next entries)
   same-step i consumed (Step′.Refused n) next entries = same-refused n
@@ -46,7 +45,6 @@ module _ (r : Register) (buffer other : List ℕ) (e : length buffer ≡ length 
       record {
         answer = refl;
         register = refl;
-        size = simp (length-append, length-drop) (omega arith);
         entries = take-append-seam xs (drop (length xs) buffer) ∙ sym (take-append-seam xs (drop (length xs) other));
       }
 
@@ -68,7 +66,7 @@ module _ (r : Register) (buffer other : List ℕ) (e : length buffer ≡ length 
   same-reading (Reading′.Refused n) = same-refused n
   same-reading (Reading′.Message m consumed) = same-message m consumed
 
-  same-call : (bytes : List ℕ) → Same (callOf r bytes buffer) (callOf r bytes other)
+  pub same-call : (bytes : List ℕ) → Same (callOf r bytes buffer) (callOf r bytes other)
   unfolding callOf
   same-call bytes = same-reading (readOf bytes)
 
@@ -99,11 +97,11 @@ module _ (f : Register → (bytes buffer : List ℕ) → Run) (h : GoAlike f) (b
       let p = passedOf (x .answer) (lengthAt bytes) in
       joined (first p (x .buffer)) (cond (p .stops) (ended (drop (p .written) (x .buffer))) (f (x .register) (drop (p .consumed) bytes) (drop (p .written) (x .buffer))))
 
-  alike-after : (x y : Result) → Same x y → passedOf (x .answer) (lengthAt bytes) .written ≤ length (x .buffer) → Alike (after x) (after y)
+  alike-after : (x y : Result) → Same x y → length (x .buffer) ≡ length (y .buffer) → passedOf (x .answer) (lengthAt bytes) .written ≤ length (x .buffer) → Alike (after x) (after y)
   unfolding after GoAlike
-  alike-after x y s room =
+  alike-after x y s size room =
       rw (← s .answer, ← s .register)
-      (alike-joined p (x .buffer) (y .buffer) _ _ room (omega (arith, room, s .size)) (rw (passed-written (x .answer) (lengthAt bytes)) (s .entries)) (on (p .stops)))
+      (alike-joined p (x .buffer) (y .buffer) _ _ room (omega arith) (rw (passed-written (x .answer) (lengthAt bytes)) (s .entries)) (on (p .stops)))
     where
       p : Passed
       p = passedOf (x .answer) (lengthAt bytes)
@@ -115,7 +113,7 @@ module _ (f : Register → (bytes buffer : List ℕ) → Run) (h : GoAlike f) (b
       on true = alike-ended (drop (p .written) (x .buffer)) (drop (p .written) (y .buffer))
       on false =
           h (x .register) (drop (p .consumed) bytes) (drop (p .written) (x .buffer)) (drop (p .written) (y .buffer))
-          (length-drop (p .written) (x .buffer) ∙ rw (s .size) (sym (length-drop (p .written) (y .buffer))))
+          (length-drop (p .written) (x .buffer) ∙ rw size (sym (length-drop (p .written) (y .buffer))))
 
   turn-alike : (r : Register) (buffer other : List ℕ) → length buffer ≡ length other → Alike (turnOf f r bytes buffer) (turnOf f r bytes other)
   unfolding after
@@ -125,7 +123,8 @@ module _ (f : Register → (bytes buffer : List ℕ) → Run) (h : GoAlike f) (b
       go true = alike-ended buffer other
       go false =
           let m = call-moves r bytes buffer in
-          alike-after (callOf r bytes buffer) (callOf r bytes other) (same-call r buffer other e bytes) (omega (arith, m .size, m .room))
+          alike-after (callOf r bytes buffer) (callOf r bytes other) (same-call r buffer other (ap (λ (n : ℕ). ltb n longestCall) e) bytes)
+          (m .size ∙ e ∙ sym (call-moves r bytes other .size)) (omega (arith, m .size, m .room))
 
 runs-alike : (most : ℕ) → GoAlike (runFrom most)
 unfolding runFrom GoAlike

@@ -6,7 +6,10 @@ mod runs;
 
 use account::Account;
 use account::Outlook;
+pub use runs::Passed;
 pub use runs::Ran;
+pub use runs::passed_by;
+pub use runs::refusal_of;
 pub use runs::run;
 ghost use mathlib.Core.Path.{_≡_};
 ghost use Prim.Native.Nat.{_<_};

@@ -14,8 +14,8 @@ pub struct Ran {
     pub written: usize,
 }
 
-// What one message comes to, and whether the run stops at it.
-pub(crate) struct Passed {
+// What one message comes to, and whether nothing more is read after it.
+pub struct Passed {
     pub refused: usize,
     pub consumed: usize,
     pub written: usize,
@@ -54,8 +54,8 @@ pub fn run(messages: &[u8], entries: &mut [u8]) -> Ran
     ran
 }
 
-// What a message comes to, by its answer and its whole length.
-fn passed_by(answer: Answer, whole: usize) -> Passed
+// What a message comes to, by its answer and its whole length: here alone it is said where a run stops, and how it goes on.
+pub fn passed_by(answer: Answer, whole: usize) -> Passed
     ensures { λ r. ⌜ r ≡ passedOf answer whole ⌝ }
 {
     let Answer::Taken(consumed, written) = answer else {
@@ -90,7 +90,7 @@ fn passed_over(number: u8, whole: usize) -> Passed
 }
 
 // The number of a refusal; 0 where the message was taken.
-fn refusal_of(answer: Answer) -> u8
+pub fn refusal_of(answer: Answer) -> u8
     ensures { λ r. ⌜ r ≡ answerNumber answer ⌝ }
 {
     match answer {

@@ -1,0 +1,8 @@
+-- Computed by antt.
+-- Assumes nothing.
+use mathlib.Core.Path.{refl}
+use Rattle.text.specs.Quoted.{quoted, QuotedPlain}
+
+pub quoted-plain : QuotedPlain
+unfolding quoted
+quoted-plain = record { letters = refl; digits = refl; marks = refl }

@@ -1,0 +1,76 @@
+-- Lines of text as they are printed (docs/REGISTER.md, 12.4 and 12.5): the definition of a line said a second time, from outside, for every entry; and
+-- what the writer of lines leaves in the buffer.
+-- Assumes nothing.
+use Prim.Native.Nat.{ℕ, _-_, _≤_, _<_}
+use mathlib.Core.Path.{_≡_}
+use mathlib.Core.Bool.{true}
+use mathlib.Core.List.{List, [], _∷_, _++_, map}
+use mathlib.Core.Option.{none}
+use lib.Dec.{leb, ltb}
+use lib.ListN.{length, take, drop}
+use Rattle.rule.specs.Lists.{every}
+use Rattle.account.specs.declared.Event.{Event}
+use Rattle.account.specs.declared.Event.the-variants.{Open, Withdraw, Deposit, Close}
+use Rattle.account.specs.declared.Told.{Told}
+use Rattle.account.specs.declared.Entry.{Entry}
+use Rattle.layout.specs.Answers.{given, Wrote, test, firstOf, Stays}
+use Rattle.text.specs.Text.{decimal, lineOf, writeLineOf}
+use Rattle.text.specs.Quoted.{quoted}
+use Rattle.entry.specs.Plain.{ofEachKind}
+
+-- a space and a number, in decimal
+abbrev pub field : (number : ℕ) → List ℕ
+field number = quoted " " ++ decimal number
+
+-- a space, an event's name and its amount
+abbrev pub eventText : Event → List ℕ
+eventText (Open a) = quoted " open" ++ field a
+eventText (Withdraw a) = quoted " withdraw" ++ field a
+eventText (Deposit a) = quoted " deposit" ++ field a
+eventText Close = quoted " close" ++ field 0
+
+-- transaction, account and second
+abbrev pub headingText : (transaction account second : ℕ) → List ℕ
+headingText t a s = field t ++ (field a ++ field s)
+
+-- the line of an entry of each kind
+abbrev pub LinesPlain : Type 0
+LinesPlain =
+    (t a s : ℕ) (e : Event) (n : ℕ)
+    → map (λ (told : Told). lineOf a (record { transaction = t; second = s; told = told })) (ofEachKind e n)
+    ≡ (quoted "accepted" ++ (headingText t a s ++ (eventText e ++ (field n ++ quoted "\n")))) ∷
+    (quoted "rejected" ++ (headingText t a s ++ (eventText e ++ (field n ++ quoted "\n")))) ∷
+    (quoted "held" ++ (headingText t a s ++ (eventText e ++ (field n ++ quoted "\n")))) ∷
+    (quoted "noted" ++ (headingText t a s ++ quoted "\n")) ∷
+    (quoted "applied" ++ (headingText t a s ++ (eventText e ++ (field n ++ quoted "\n")))) ∷
+    (quoted "dropped" ++ (headingText t a s ++ (eventText e ++ quoted "\n"))) ∷
+    []
+
+-- the last byte is a newline, and none before it is below a space
+pub record Ended (text : List ℕ) : Type 0 where
+  pub last : drop (length text - 1) text ≡ 10 ∷ []
+  pub before : every (leb 32) (take (length text - 1) text) ≡ true
+
+abbrev pub LinesEnd : Type 0
+LinesEnd = (account : ℕ) (e : Entry) → Ended (lineOf account e)
+
+-- an account's number has 2 bytes
+abbrev pub LinesFit : Type 0
+LinesFit = (account : ℕ) (e : Entry) → account < 65_536 → length (lineOf account e) ≤ 68
+
+-- the answer is the line's length, and the buffer begins with the line
+pub record Leaves (line : List ℕ) (w : Wrote) : Type 0 where
+  pub answer : given (w .answer) ≡ record { refusal = none; length′ = length line }
+  pub text : take (length line) (w .buffer) ≡ line
+
+abbrev pub LineReadBack : Type 0
+LineReadBack = (e : Entry) (account : ℕ) (buffer : List ℕ) → 68 ≤ length buffer → Leaves (lineOf account e) (writeLineOf e account buffer)
+
+-- a line is refused exactly if the buffer is too short for the longest
+abbrev pub LineRefuses : Type 0
+LineRefuses =
+    (e : Entry) (account : ℕ) (buffer : List ℕ) → given (writeLineOf e account buffer .answer) .refusal ≡ firstOf (test (ltb (length buffer) 68) 4 ∷ [])
+
+-- an account's number has 2 bytes
+abbrev pub LineStays : Type 0
+LineStays = (e : Entry) (account : ℕ) (buffer : List ℕ) → account < 65_536 → Stays buffer (writeLineOf e account buffer)

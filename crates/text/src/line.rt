@@ -1,0 +1,137 @@
+// An entry's line of text.
+ghost use mathlib.Core.List.{[], _∷_};
+ghost use mathlib.Core.Path.{_≡_};
+ghost use Prim.Native.Nat.{_+_, _≤_, _<_};
+ghost use lib.ListN.{length, take};
+ghost use Rattle.layout.specs.Events.{amountOf};
+ghost use Rattle.text.specs.Text.{decimalIn, decimal, eventName, thenFields, spaced, lineOf, longestLine, writeLineOf, Put, farthest};
+use crate::words;
+use crate::words::Word;
+use account::Entry;
+use account::Event;
+use account::Told;
+use layout::Writing;
+
+// Writes the line of an entry of that account to the beginning of a buffer.
+pub fn write_line(entry: Entry, account: u16, buffer: &mut [u8]) -> Writing
+    ensures { λ r. ⌜ (r ≡ writeLineOf entry account (now (buffer .entry)) .answer) × (now (buffer .exit) ≡ writeLineOf entry account (now (buffer .entry)) .buffer) ⌝ }
+{
+    if buffer.len() < crate::LONGEST_LINE {
+        return Writing::Refused(4);
+    }
+    Writing::Written(put_line(buffer, 0, entry, account))
+}
+
+// Stores the line of an entry of that account from `at` on.
+pub(crate) fn put_line(buffer: &mut [u8], at: usize, entry: Entry, account: u16) -> usize
+    requires { ⌜ at ≤ farthest ⌝ }
+    ensures { λ r. ⌜ Put (lineOf account entry) at longestLine (now (buffer .entry)) r (now (buffer .exit)) ⌝ }
+{
+    let told = entry.told;
+    let named = put_word(buffer, at, words::name(told));
+    let headed = put_heading(buffer, named, entry.transaction, account, entry.second);
+    let end = put_then(buffer, headed, told);
+    layout::put1(buffer, end, b'\n');
+    end + 1
+}
+
+// Stores transaction, account and second from `at` on.
+fn put_heading(buffer: &mut [u8], at: usize, transaction: u32, account: u16, second: u32) -> usize
+    requires { ⌜ at ≤ farthest + 100 ⌝ }
+    ensures { λ r. ⌜ Put (spaced (decimal transaction ∷ decimal account ∷ decimal second ∷ [])) at 33 (now (buffer .entry)) r (now (buffer .exit)) ⌝ }
+{
+    let first = put_number(buffer, at, transaction);
+    let second_at = put_number(buffer, first, account as u32);
+    put_number(buffer, second_at, second)
+}
+
+// Stores what follows transaction, account and second from `at` on.
+fn put_then(buffer: &mut [u8], at: usize, told: Told) -> usize
+    requires { ⌜ at ≤ farthest + 200 ⌝ }
+    ensures { λ r. ⌜ Put (spaced (thenFields told)) at 31 (now (buffer .entry)) r (now (buffer .exit)) ⌝ }
+{
+    match told {
+        Told::Accepted(event, weighed) => put_with(buffer, at, event, weighed),
+        Told::Rejected(event, weighed) => put_with(buffer, at, event, weighed),
+        Told::Held(event, weighed) => put_with(buffer, at, event, weighed),
+        Told::Noted => at,
+        Told::Applied(event, balance) => put_with(buffer, at, event, balance),
+        Told::Dropped(event) => put_event(buffer, at, event),
+    }
+}
+
+// Stores an event and the number that follows it from `at` on.
+fn put_with(buffer: &mut [u8], at: usize, event: Event, number: u32) -> usize
+    requires { ⌜ at ≤ farthest + 200 ⌝ }
+    ensures { λ r. ⌜ Put (spaced (eventName event ∷ decimal (amountOf event) ∷ decimal number ∷ [])) at 31 (now (buffer .entry)) r (now (buffer .exit)) ⌝ }
+{
+    let next = put_event(buffer, at, event);
+    put_number(buffer, next, number)
+}
+
+// Stores an event's name and amount from `at` on.
+fn put_event(buffer: &mut [u8], at: usize, event: Event) -> usize
+    requires { ⌜ at ≤ farthest + 200 ⌝ }
+    ensures { λ r. ⌜ Put (spaced (eventName event ∷ decimal (amountOf event) ∷ [])) at 20 (now (buffer .entry)) r (now (buffer .exit)) ⌝ }
+{
+    layout::put1(buffer, at, b' ');
+    let next = put_word(buffer, at + 1, words::event_name(event));
+    put_number(buffer, next, layout::event_amount(event))
+}
+
+// Stores a space and a number from `at` on.
+pub(crate) fn put_number(buffer: &mut [u8], at: usize, number: u32) -> usize
+    requires { ⌜ at ≤ farthest + 400 ⌝ }
+    ensures { λ r. ⌜ Put (spaced (decimal number ∷ [])) at 11 (now (buffer .entry)) r (now (buffer .exit)) ⌝ }
+{
+    layout::put1(buffer, at, b' ');
+    put_decimal(buffer, at + 1, 10, number)
+}
+
+// Stores the digits of a number from `at` on, at most as many as `places` says.
+fn put_decimal(buffer: &mut [u8], at: usize, places: usize, number: u32) -> usize
+    requires { ⌜ (at ≤ farthest + 500) × (places ≤ 10) ⌝ }
+    ensures { λ r. ⌜ Put (decimalIn places number) at places (now (buffer .entry)) r (now (buffer .exit)) ⌝ }
+{
+    if places == 0 {
+        return at;
+    }
+    if number < 10 {
+        layout::put1(buffer, at, digit(number));
+        return at + 1;
+    }
+    let next = put_decimal(buffer, at, places - 1, number / 10);
+    layout::put1(buffer, next, digit(number % 10));
+    next + 1
+}
+
+// The digit of a number below 10.
+fn digit(number: u32) -> u8
+    requires { ⌜ number < 10 ⌝ }
+    ensures { λ r. ⌜ r ≡ 48 + number ⌝ }
+{
+    b'0' + number as u8
+}
+
+// Stores a name from `at` on.
+fn put_word(buffer: &mut [u8], at: usize, word: Word) -> usize
+    requires { ⌜ (at ≤ farthest + 300) × (word .length ≤ 8) ⌝ }
+    ensures { λ r. ⌜ Put (take (word .length) (word .letters)) at 8 (now (buffer .entry)) r (now (buffer .exit)) ⌝ }
+{
+    let length = word.length;
+    let letters = word.letters;
+    put_letters(buffer, at, &letters[0..length])
+}
+
+// Stores letters from `at` on.
+pub(crate) fn put_letters(buffer: &mut [u8], at: usize, letters: &[u8]) -> usize
+    requires { ⌜ (at ≤ farthest + 300) × (length (now letters) ≤ farthest) ⌝ }
+    ensures { λ r. ⌜ Put (now (letters .entry)) at (length (now (letters .entry))) (now (buffer .entry)) r (now (buffer .exit)) ⌝ }
+{
+    let mut i: usize = 0;
+    while i < letters.len() {
+        layout::put1(buffer, at + i, letters[i]);
+        i += 1;
+    }
+    at + i
+}

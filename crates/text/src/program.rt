@@ -1,0 +1,174 @@
+// What the program prints, step by step: how it begins, the text of each message's answer, and its last line.
+// Each step writes its text to the beginning of a buffer; LONGEST_TEXT bytes hold any.
+ghost use mathlib.Core.List.{[], _∷_};
+ghost use mathlib.Core.Path.{_≡_};
+ghost use Prim.Native.Nat.{_+_, _≤_, _<_, min};
+ghost use lib.ListN.{length};
+ghost use Rattle.text.specs.Text.{Put};
+ghost use Rattle.text.specs.Output.{lastLine, refusedLine, answerText, linesFrom, mostLines};
+ghost use Rattle.text.specs.Program.{longestText, beginText, beginOf, startAfter, counted, Serves, finishText};
+use crate::line;
+use account::Entries;
+use entry::EntryReading;
+use register::Answer;
+use register::Passed;
+use register::Register;
+
+// The program takes at most so many bytes; one byte more shows that there are more.
+pub const LONGEST_INPUT: usize = 65_536;
+
+// The room that the text of a step needs: the lines of a call.
+pub const LONGEST_TEXT: usize = Entries::MOST * crate::LONGEST_LINE;
+
+// What has been served of an input: the register, where the next message starts, the messages met and refused, and how long the last text was.
+pub struct Served {
+    pub register: Register,
+    pub from: usize,
+    pub met: u32,
+    pub refused: u32,
+    pub written: usize,
+}
+
+// The beginning: the first line, and a second one where the input is too long, of which nothing is served.
+pub fn begin(input: &[u8], out: &mut [u8]) -> Served
+    ensures { λ r. ⌜ (r ≡ beginOf (now (input .entry))) × (Put (beginText (now (input .entry))) 0 20 (now (out .entry)) (r .written) (now (out .exit))) ⌝ }
+{
+    let first = line::put_letters(out, 0, b"register 1\n");
+    if LONGEST_INPUT < input.len() {
+        let written = line::put_letters(out, first, b"too long\n");
+        return Served {
+            register: Register::fresh(),
+            from: input.len(),
+            met: 0,
+            refused: 0,
+            written,
+        };
+    }
+    Served {
+        register: Register::fresh(),
+        from: 0,
+        met: 0,
+        refused: 0,
+        written: first,
+    }
+}
+
+// Sends the next message to the register: its text, and what has been served then. Where there is none nothing changes.
+pub fn serve(served: Served, input: &[u8], out: &mut [u8]) -> Served
+    ensures { λ r. ⌜ Serves served (now (input .entry)) (now (out .entry)) r (now (out .exit)) ⌝ }
+{
+    let from = served.from;
+    let before = served.register;
+    if input.len() <= from {
+        return Served {
+            register: before,
+            from,
+            met: served.met,
+            refused: served.refused,
+            written: 0,
+        };
+    }
+    let rest = &input[from..];
+    let mut entries = [0u8; entry::LONGEST_CALL];
+    let called = before.call(rest, &mut entries);
+    let answer = called.answer;
+    let following = called.register;
+    let passed = register::passed_by(answer, message::whole_length(layout::number1(rest, 0)));
+    let written = put_answer(out, answer, &entries);
+    Served {
+        register: following,
+        from: start_after(from, passed, input.len()),
+        met: counted_by(served.met, 1),
+        refused: counted_by(served.refused, passed.refused),
+        written,
+    }
+}
+
+// The end: the last line; an input that is too long has none.
+pub fn finish(served: Served, input: &[u8], out: &mut [u8]) -> usize
+    ensures { λ r. ⌜ Put (finishText served (now (input .entry))) 0 26 (now (out .entry)) r (now (out .exit)) ⌝ }
+{
+    if LONGEST_INPUT < input.len() {
+        return 0;
+    }
+    put_last_line(out, served.met, served.refused)
+}
+
+// Where the next message starts; the end of the input where there is none.
+fn start_after(from: usize, passed: Passed, end: usize) -> usize
+    requires { ⌜ from + passed .consumed ≤ end ⌝ }
+    ensures { λ r. ⌜ r ≡ startAfter from passed end ⌝ }
+{
+    if passed.stops {
+        return end;
+    }
+    from + passed.consumed
+}
+
+// A count with one more, or none.
+fn counted_by(count: u32, by: usize) -> u32
+    requires { ⌜ by ≤ 1 ⌝ }
+    ensures { λ r. ⌜ r ≡ counted count by ⌝ }
+{
+    if (count as usize) < LONGEST_INPUT {
+        count + by as u32
+    } else {
+        count
+    }
+}
+
+// Stores the text of an answer: the lines of its entries, or its refusal.
+fn put_answer(out: &mut [u8], answer: Answer, entries: &[u8]) -> usize
+    ensures { λ r. ⌜ Put (answerText answer (now (entries .entry))) 0 longestText (now (out .entry)) r (now (out .exit)) ⌝ }
+{
+    let Answer::Taken(_, written) = answer else {
+        return put_refusal(out, register::refusal_of(answer));
+    };
+    let end = least(written, entries.len());
+    put_lines(out, &entries[..end])
+}
+
+// Stores the line of a refusal.
+fn put_refusal(out: &mut [u8], number: u8) -> usize
+    ensures { λ r. ⌜ Put (refusedLine number) 0 19 (now (out .entry)) r (now (out .exit)) ⌝ }
+{
+    let named = line::put_letters(out, 0, b"refused");
+    let numbered = line::put_number(out, named, number as u32);
+    line::put_letters(out, numbered, b"\n")
+}
+
+// Stores the last line.
+fn put_last_line(out: &mut [u8], met: u32, refused: u32) -> usize
+    ensures { λ r. ⌜ Put (lastLine met refused) 0 26 (now (out .entry)) r (now (out .exit)) ⌝ }
+{
+    let named = line::put_letters(out, 0, b"end");
+    let first = line::put_number(out, named, met);
+    let second = line::put_number(out, first, refused);
+    line::put_letters(out, second, b"\n")
+}
+
+// Stores the lines of the entries that stand one behind the other.
+fn put_lines(out: &mut [u8], entries: &[u8]) -> usize
+    ensures { λ r. ⌜ Put (linesFrom mostLines (now (entries .entry))) 0 longestText (now (out .entry)) r (now (out .exit)) ⌝ }
+{
+    let mut at: usize = 0;
+    let mut from: usize = 0;
+    let mut i: usize = 0;
+    while i < Entries::MOST {
+        let reading = entry::read_entry(&entries[from..]);
+        let EntryReading::Found(found, account, whole) = reading else {
+            return at;
+        };
+        at = line::put_line(out, at, found, account);
+        from += whole;
+        i += 1;
+    }
+    at
+}
+
+// The smaller of two numbers.
+fn least(one: usize, other: usize) -> usize
+    ensures { λ r. ⌜ r ≡ min one other ⌝ }
+{
+    if one < other { one } else { other }
+}
