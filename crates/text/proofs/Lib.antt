@@ -6,3 +6,7 @@ pub mod Printed
 pub mod Pieces
 pub mod Steps
 pub mod Prints
+pub mod Samples
+pub mod SameCalls
+pub mod EntryLines
+pub mod OutputCalls
