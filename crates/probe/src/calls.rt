@@ -30,20 +30,12 @@ pub(crate) fn call(register: Register, payload: &[u8], page: &mut Page, at: usiz
 // Puts what the call answered, and what it left in the buffer.
 fn said(answer: Answer, buffer: &Buffer, page: &mut Page, at: usize) -> usize {
     let Answer::Taken(consumed, written) = answer else {
-        let end = page::refused(page, at, number_of(answer));
+        let end = page::refused(page, at, register::refusal_of(answer));
         return page::kept(page, end, buffer, 0);
     };
     let end = page::word(page, at, b"taken");
     let end = page::count(page, end, consumed);
     page::written(page, end, buffer, written)
-}
-
-// The number of a call's refusal; 0 where it was taken.
-fn number_of(answer: Answer) -> u8 {
-    match answer {
-        Answer::Refused(number) => number,
-        Answer::Taken(_, _) => 0,
-    }
 }
 
 // Frame 2: the outcome question.

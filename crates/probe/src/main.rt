@@ -14,8 +14,8 @@ use register::Register;
 ghost use Prim.Native.Nat.{_<_, _≤_};
 ghost use lib.ListN.{length};
 
-// The longest input, in bytes.
-const LONGEST: usize = 65_536;
+// The longest input, in bytes: the program's.
+const LONGEST: usize = text::LONGEST_INPUT;
 
 // After a frame's answer: the register, and where the text ends.
 pub(crate) struct Answered {

@@ -170,10 +170,10 @@ unfolding runOf
 run-is-its-calls bytes buffer = calls-from (length bytes) freshRegister bytes buffer (omega arith)
 
 -- what is left of bytes are bytes, so every message of the calls is a string of bytes
-bytes-left : (bytes : List ℕ) (n : ℕ) → AreBytes bytes → AreBytes (drop n bytes)
+pub bytes-left : (bytes : List ℕ) (n : ℕ) → AreBytes bytes → AreBytes (drop n bytes)
 bytes-left bytes n b = λ i. rw (getD-drop n bytes i 0) (b (n + i))
 
-calls-bytes : {bytes buffer : List ℕ} {inputs : List Input} {seen : List Exchange} {passed : ℕ} → Calls bytes buffer inputs seen passed → AreBytes bytes → ByteStrings inputs
+pub calls-bytes : {bytes buffer : List ℕ} {inputs : List Input} {seen : List Exchange} {passed : ℕ} → Calls bytes buffer inputs seen passed → AreBytes bytes → ByteStrings inputs
 calls-bytes ended b = tt
 calls-bytes (stopped n more q which) b = (b, tt)
 calls-bytes (skipped {bytes = bytes} n whole q high w rest) b = (b, calls-bytes rest (bytes-left bytes whole b))

@@ -7,3 +7,7 @@ pub mod Pieces
 pub mod Steps
 pub mod Prints
 pub mod Quoted
+pub mod Samples
+pub mod SameCalls
+pub mod EntryLines
+pub mod OutputCalls

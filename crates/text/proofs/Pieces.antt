@@ -10,11 +10,11 @@ use mathlib.Core.List.{List, [], _∷_, _++_, append-nil, append-assoc}
 use borrow.Author.Tests.{lt-ltb, le-ltb, ltb-true, ltb-false}
 use lib.Dec.{ltb}
 use lib.ListN.{length, take, drop, length-append, length-drop}
-use lib.Seq.{sets, drop-drop, take-all, take-length}
+use lib.Seq.{sets, drop-drop, take-all, take-length, take-append-seam, drop-append-seam}
 use Rattle.account.specs.declared.Entry.{Entry}
 use Rattle.entry.specs.declared.EntryReading.the-variants.{Found, Nothing}
 use Rattle.entry.specs.Answers.{readOf}
-use Rattle.layout.proofs.Stores.{sets-more}
+use Rattle.layout.proofs.Stores.{sets-more, laid-over}
 use Rattle.entry.proofs.Inverse.{taken-of}
 use Rattle.register.specs.declared.Register.{Register}
 use Rattle.register.specs.Register.{freshRegister}
@@ -22,12 +22,19 @@ use Rattle.text.specs.declared.program.Served.{Served}
 use Rattle.text.specs.Text.{decimal, spaced, lineOf, longestLine, Put}
 use Rattle.text.specs.Quoted.{quoted}
 use Rattle.text.specs.Output.{longestInput, firstLine, tooLong, refusedLine, lastLine, linesFrom, mostLines}
-use Rattle.text.specs.Program.{longestText, beginText, beginOf, finishText}
+use Rattle.text.specs.Program.{longestText, beginText, beginOf, finishText, TextAtTheBeginning}
 use Rattle.text.proofs.Texts.{put-nothing, put-append, put-room, put-fields}
 
 -- text from the beginning of a buffer on ends at its length
 pub put-length : (text : List ℕ) (most next : ℕ) (l l₁ : List ℕ) → Put text 0 most l next l₁ → next ≡ length text
 put-length text most next l l₁ p = p .place ∙ zero-add (length text)
+
+pub text-at-the-beginning : TextAtTheBeginning
+text-at-the-beginning text most before next after p room =
+    let n = put-length text most next before after p in
+    let h : next ≤ most = omega (arith, p .within) in
+    let laid : after ≡ text ++ drop (length text) before = p .stored ∙ laid-over text before (omega arith) in
+    (h, rw (laid, n) (take-append-seam text (drop (length text) before)), rw (laid, n) (drop-append-seam text (drop (length text) before)))
 
 -- ---- the beginning
 
@@ -90,12 +97,12 @@ lined-start entries before =
     record { count = omega arith; within = omega arith; room = omega arith; size = refl; done = []; place = refl; stored = refl; whole = refl }
 
 -- one line more
-lines-more : (most : ℕ) (bytes : List ℕ) (e : Entry) (account whole : ℕ) → readOf bytes ≡ Found e account whole
+pub lines-more : (most : ℕ) (bytes : List ℕ) (e : Entry) (account whole : ℕ) → readOf bytes ≡ Found e account whole
     → linesFrom (suc most) bytes ≡ lineOf account e ++ linesFrom most (drop whole bytes)
 unfolding linesFrom
 lines-more most bytes e account whole q = rw q
 
-lines-none : (most : ℕ) (bytes : List ℕ) → readOf bytes ≡ Nothing → linesFrom most bytes ≡ []
+pub lines-none : (most : ℕ) (bytes : List ℕ) → readOf bytes ≡ Nothing → linesFrom most bytes ≡ []
 unfolding linesFrom
 lines-none zero bytes q = refl
 lines-none (suc most) bytes q = rw q

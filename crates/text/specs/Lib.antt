@@ -6,3 +6,5 @@ pub mod Vectors
 pub mod Lines
 pub mod Output
 pub mod Program
+pub mod Samples
+pub mod OutputCalls

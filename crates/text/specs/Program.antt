@@ -69,6 +69,12 @@ serveOf s input =
 abbrev pub finishText : Served → (input : List ℕ) → List ℕ
 finishText s input = cond (ltb longestInput (length input)) [] (lastLine (s .met) (s .refused))
 
+-- where there is room for a text, the buffer begins with it, and is as it was behind it
+abbrev pub TextAtTheBeginning : Type 0
+TextAtTheBeginning =
+    (text : List ℕ) (most : ℕ) (before : List ℕ) (next : ℕ) (after : List ℕ) → Put text 0 most before next after → most ≤ length before
+    → (next ≤ most) × (take next after ≡ text) × (drop next after ≡ drop next before)
+
 -- what a step's contract says: what has been served, the text in the buffer, and that the program gets further
 pub record Serves (s : Served) (input before : List ℕ) (r : Served) (after : List ℕ) : Type 0 where
   pub state : r ≡ serveOf s input

@@ -88,7 +88,7 @@ pub fn serve(served: Served, input: &[u8], out: &mut [u8]) -> Served
 pub fn finish(served: Served, input: &[u8], out: &mut [u8]) -> usize
     ensures { λ r. ⌜ Put (finishText served (now (input .entry))) 0 26 (now (out .entry)) r (now (out .exit)) ⌝ }
 {
-    if LONGEST_INPUT < input.len() {
+    if input.len() > LONGEST_INPUT {
         return 0;
     }
     put_last_line(out, served.met, served.refused)
