@@ -24,10 +24,10 @@ use Rattle.layout.proofs.Plain.{numbers-plain}
 use Rattle.entry.specs.declared.EntryReading.{EntryReading}
 use Rattle.entry.specs.declared.EntryReading.the-variants.{Found, Nothing}
 use Rattle.entry.specs.Bytes.{entryRows, kindOf, toldBy, lengthOfTold}
-use Rattle.entry.specs.Answers.{given, eventFits, readOf, numberAfter, entryAt}
+use Rattle.entry.specs.Answers.{given, eventFits, readOf}
 use Rattle.entry.specs.Plain.{lengthIn, EventStands, Stands, Begins, ReaderFinds, kindLength, noEntry, nothing, ReaderFindsNone}
 use Rattle.entry.proofs.Shapes.{shaped, event-fits}
-use Rattle.entry.proofs.Reading.{fits-read, read-unknown, read-short, read-account, read-fitting}
+use Rattle.entry.proofs.Reading.{numberAfter, entryAt, fits-read, read-unknown, read-short, read-account, read-fitting}
 use Rattle.entry.proofs.Inverse.{event-back, taken-of}
 use Rattle.entry.proofs.Refusals.{readings-apart}
 use Rattle.entry.proofs.Plain.{lengths-plain}

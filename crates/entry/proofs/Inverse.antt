@@ -18,13 +18,14 @@ use Rattle.layout.specs.Inverse.{Fit}
 use Rattle.layout.proofs.Numbers.{numberAt-fits}
 use Rattle.layout.proofs.Fields.{fit-heading, numbersAt-fit, numbersAt-written, written-numbersAt}
 use Rattle.layout.proofs.Tables.{present, unknown}
+use Rattle.layout.proofs.Shapes.{found-holds}
 use Rattle.entry.specs.declared.EntryReading.{EntryReading}
 use Rattle.entry.specs.declared.EntryReading.the-variants.{Found, Nothing}
 use Rattle.entry.specs.Bytes.{entryRows, kindOf, thenNumbers, numbersOf, bytesOfEntry, lengthOfTold, toldBy, entryOf}
 use Rattle.entry.specs.Answers.{eventFits, thenFits, readNumbers, readKind, readOf}
 use Rattle.entry.specs.Inverse.{ReadsWritten, WritesRead}
 use Rattle.entry.proofs.Booleans.{both}
-use Rattle.entry.proofs.Shapes.{shaped}
+use Rattle.entry.proofs.Shapes.{rows-hold, shaped}
 use Rattle.entry.proofs.Stored.{length-entry}
 use Rattle.entry.proofs.Reading.{by-kind, numbers-row}
 
@@ -98,12 +99,6 @@ taken-of bytes account e whole n =
     λ z. nothing-found e account whole (rw (unknown entryRows kind (omega arith) z) at n) in
     by-row (rowOf entryRows kind) bytes account e whole (omega arith) n
 
--- the widths of a row that was found make up its length
-whole-row : (kind : ℕ) → 0 < wholeOf (rowOf entryRows kind) → total (widthsOf (rowOf entryRows kind)) ≡ wholeOf (rowOf entryRows kind)
-unfolding rowOf entryRows
-whole-row kind p =
-    present (λ (k : ℕ). total (widthsOf (rowOf entryRows k)) ≡ wholeOf (rowOf entryRows k)) entryRows kind (refl, (refl, (refl, (refl, (refl, (refl, tt)))))) p
-
 -- an event that fits is the one of its kind and amount
 pub event-back : (kind amount : ℕ) → eventFits kind amount ≡ true → (eventKind (eventOf kind amount) ≡ kind) × (amountOf (eventOf kind amount) ≡ amount)
 unfolding eventOf
@@ -163,7 +158,7 @@ writes-read bytes account e whole b n =
     let numbers : numbersOf account e ≡ numbersAt (widthsOf found) bytes 0 =
     sym (ap₂ numbersOf (t .account′) (t .entry)) ∙ numbers-back bytes kind (t .positive) refl (t .fitting) in
     let number : (i : ℕ) → getD (numbersOf account e) i 0 ≡ getD (numbersAt (widthsOf found) bytes 0) i 0 = λ i. ap (λ (ns : List ℕ). getD ns i 0) numbers in
-    let sum : total (widthsOf found) ≡ wholeOf found = whole-row kind (t .positive) in
+    let sum : total (widthsOf found) ≡ wholeOf found = found-holds entryRows kind rows-hold (t .positive) .sum in
     let k : kindOf (e .told) ≡ kind = number 0 in
     let then : thenNumbers (e .told) ≡ numbersAt (thenOf found) bytes 11 = ap (λ (ns : List ℕ). drop 4 ns) numbers in
     let bounds = shaped (e .told) .bounds (rw (then, k) (numbersAt-fit (thenOf found) bytes 11 b)) in

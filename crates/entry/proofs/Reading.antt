@@ -3,18 +3,36 @@
 use Prim.Native.Nat.{ℕ, _≤_, _<_}
 use native.Mathlib.Omega.{arith}
 use mathlib.Core.Path.{_≡_, refl, sym, _∙_}
-use mathlib.Core.Bool.{true, cond}
-use mathlib.Core.List.{List}
+use mathlib.Core.Bool.{true, cond, _||_}
+use mathlib.Core.List.{List, map}
 use mathlib.Core.Option.{Option, none, some}
 use borrow.Author.Tests.{lt-ltb, le-ltb}
 use lib.Dec.{eqb}
 use lib.ListN.{length, getD, drop}
+use Rattle.account.specs.declared.Entry.{Entry}
 use Rattle.layout.specs.Number.{numberAt}
 use Rattle.layout.specs.Fields.{Row, rowOf, wholeOf, thenOf, widthsOf, numbersAt, lastAccount}
+use Rattle.layout.specs.Shapes.{wide, shapeOf}
+use Rattle.layout.specs.Events.{eventOf}
 use Rattle.layout.proofs.Tables.{present, unknown}
+use Rattle.layout.proofs.Shapes.{found-holds, padded-read, padded-at}
 use Rattle.entry.specs.declared.EntryReading.the-variants.{Found, Nothing}
-use Rattle.entry.specs.Bytes.{entryRows, toldBy, entryOf}
-use Rattle.entry.specs.Answers.{eventFits, thenFits, readKind, readOf, entryAt}
+use Rattle.entry.specs.Bytes.{entryRows, toldBy, entryBy, entryOf}
+use Rattle.entry.specs.Answers.{eventFits, thenFits, readKind, readOf}
+use Rattle.entry.proofs.Shapes.{rows-hold}
+
+-- the entry that the bytes hold by its places: the number that follows the event, of the width that the kind gives it,
+abbrev pub numberAfter : (bytes : List ℕ) (kind : ℕ) → ℕ
+numberAfter bytes kind = cond (eqb kind 21) (numberAt bytes 16 4) (numberAt bytes 16 2)
+
+-- and the entry of that kind
+abbrev pub entryAt : (bytes : List ℕ) (kind : ℕ) → Entry
+entryAt bytes kind =
+    record {
+      transaction = numberAt bytes 1 4;
+      second = numberAt bytes 7 4;
+      told = toldBy kind (eventOf (numberAt bytes 11 1) (numberAt bytes 12 4)) (numberAfter bytes kind);
+    }
 
 -- the ways on from a row that was found
 short-row : (found : Option Row) (bytes : List ℕ) → length bytes < wholeOf found → readKind found bytes ≡ Nothing
@@ -39,6 +57,18 @@ module _ (bytes : List ℕ) (kind : ℕ) (p : 0 < wholeOf (rowOf entryRows kind)
   fits-read =
       present
       (λ (k : ℕ). thenFits (numbersAt (thenOf (rowOf entryRows k)) bytes 11) ≡ cond (eqb k 20) true (eventFits (numberAt bytes 11 1) (numberAt bytes 12 4)))
+      entryRows kind (refl, (refl, (refl, (refl, (refl, (refl, tt)))))) p
+
+  -- the same by the row's widths: it has no event where the width after the heading is 0
+  fits-row : thenFits (numbersAt (thenOf (rowOf entryRows kind)) bytes 11)
+      ≡ (eqb (getD (shapeOf (rowOf entryRows kind) .widths) 4 0) 0
+      || eventFits (getD (numbersAt (widthsOf (rowOf entryRows kind)) bytes 0) 4 0) (getD (numbersAt (widthsOf (rowOf entryRows kind)) bytes 0) 5 0))
+  unfolding rowOf entryRows numbersAt
+  fits-row =
+      present
+      (λ (k : ℕ). thenFits (numbersAt (thenOf (rowOf entryRows k)) bytes 11)
+      ≡ (eqb (getD (shapeOf (rowOf entryRows k) .widths) 4 0) 0
+      || eventFits (getD (numbersAt (widthsOf (rowOf entryRows k)) bytes 0) 4 0) (getD (numbersAt (widthsOf (rowOf entryRows k)) bytes 0) 5 0)))
       entryRows kind (refl, (refl, (refl, (refl, (refl, (refl, tt)))))) p
 
   told-read : kind ≡ numberAt bytes 0 1 → entryOf (numbersAt (widthsOf (rowOf entryRows kind)) bytes 0) ≡ entryAt bytes kind
@@ -73,3 +103,30 @@ module _ (bytes : List ℕ) (kind whole : ℕ) (k : kind ≡ numberAt bytes 0 1)
       by-kind
       ∙ numbers-row found bytes (numbersAt (widthsOf found) bytes 0) p (rw w at h) refl a
       ∙ rw (fits-read bytes kind p, told-read bytes kind p k, w)
+
+  -- the same by the numbers that the code reads: those of the row, and 0 in the places behind them
+  module _ (z : whole ≡ 0 → ⊥) (h : whole ≤ length bytes) (numbers : List ℕ) (n : numbers ≡ numbersAt (map wide (shapeOf (rowOf entryRows kind) .widths)) bytes 0) where
+    positive : 0 < wholeOf (rowOf entryRows kind)
+    positive = rw (← w) (omega arith)
+
+    row-at : (i : ℕ) → getD numbers i 0 ≡ getD (numbersAt (widthsOf (rowOf entryRows kind)) bytes 0) i 0
+    row-at i =
+        let found = rowOf entryRows kind in
+        rw (n, found-holds entryRows kind rows-hold positive .widths, padded-read (widthsOf found) bytes 0) (padded-at (numbersAt (widthsOf found) bytes 0) i)
+
+    pub read-last : lastAccount < getD numbers 2 0 → readOf bytes ≡ Nothing
+    unfolding numbersAt
+    read-last a = read-account h (rw (row-at 2) at a)
+
+    pub read-row : getD numbers 2 0 ≤ lastAccount
+        → readOf bytes
+        ≡ cond (eqb (getD (shapeOf (rowOf entryRows kind) .widths) 4 0) 0 || eventFits (getD numbers 4 0) (getD numbers 5 0))
+        (Found (entryBy kind numbers) (getD numbers 2 0) whole)
+        Nothing
+    unfolding numbersAt
+    read-row a =
+        let found = rowOf entryRows kind in
+        let known : getD (numbersAt (widthsOf found) bytes 0) 2 0 ≤ lastAccount = rw (row-at 2) at a in
+        by-kind
+        ∙ numbers-row found bytes (numbersAt (widthsOf found) bytes 0) positive (rw w at h) refl known
+        ∙ rw (row-at 1, row-at 2, row-at 3, row-at 4, row-at 5, row-at 6, fits-row bytes kind positive, ← k, w)

@@ -1,23 +1,32 @@
--- What the table says of each entry, by the six cases of what it tells: the only place where they are gone through for the layout.
+-- What the table says of each entry, by the six cases of what it tells: the only place where they are gone through for the layout. Of its rows it is
+-- computed that their widths make up their lengths.
 -- Assumes nothing.
-use Prim.Native.Nat.{_<_, _^_}
+use Prim.Native.Nat.{ℕ, _<_, _^_}
 use mathlib.Core.Path.{_≡_, refl}
 use mathlib.Core.Bool.{true}
 use lib.Dec.{lit<}
-use lib.ListN.{length, getD}
+use mathlib.Core.List.{_∷_}
+use lib.ListN.{length, getD, replicate}
 use Rattle.account.specs.declared.Event.{Event}
 use Rattle.account.specs.declared.Event.the-variants.{Open, Withdraw, Deposit, Close}
 use Rattle.account.specs.declared.Told.{Told}
 use Rattle.account.specs.declared.Told.the-variants.{Accepted, Rejected, Held, Noted, Applied, Dropped}
 use Rattle.layout.specs.Fields.{rowOf, thenOf, widthsOf, total}
+use Rattle.layout.specs.Shapes.{padded}
 use Rattle.layout.specs.Events.{eventKind, amountOf, eventOf}
 use Rattle.layout.specs.Inverse.{Fit, none, one}
 use Rattle.layout.proofs.Events.{event-is, kind-fits}
 use Rattle.layout.proofs.Fields.{fit-head, fit-tail}
+use Rattle.layout.proofs.Shapes.{Hold}
 use Rattle.entry.specs.Bytes.{entryRows, kindOf, thenNumbers, lengthOfTold, toldBy}
+use Rattle.entry.specs.Numbers.{thenIn}
 use Rattle.entry.specs.Answers.{eventFits, thenFits}
 use Rattle.entry.specs.Inverse.{amountIn, weighedIn, balanceIn}
 use Rattle.entry.specs.Plain.{lengthIn}
+
+pub rows-hold : Hold entryRows
+unfolding entryRows
+rows-hold = record { sums = refl; widths = refl }
 
 pub event-fits : (e : Event) → eventFits (eventKind e) (amountOf e) ≡ true
 event-fits (Open a) = refl
@@ -29,8 +38,10 @@ pub record Shaped (told : Told) : Type 0 where
   -- it is what its numbers say, and they fit
   pub numbers : toldBy (kindOf told) (eventOf (getD (thenNumbers told) 0 0) (getD (thenNumbers told) 1 0)) (getD (thenNumbers told) 2 0) ≡ told
   pub fitting : thenFits (thenNumbers told) ≡ true
-  -- there is a number for each width
+  -- there is a number for each width, and 0 in the places behind them
   pub paired : length (thenOf (rowOf entryRows (kindOf told))) ≡ length (thenNumbers told)
+  pub places : (t a s : ℕ)
+      → kindOf told ∷ t ∷ a ∷ s ∷ thenIn told .event ∷ thenIn told .amount ∷ thenIn told .number ∷ replicate 3 0 ≡ padded (kindOf told ∷ t ∷ a ∷ s ∷ thenNumbers told)
   -- the widths make up the whole length
   pub whole : total (widthsOf (rowOf entryRows (kindOf told))) ≡ lengthOfTold told
   -- which is the plain one
@@ -48,6 +59,7 @@ shaped (Accepted e n) =
       numbers = rw (event-is e);
       fitting = event-fits e;
       paired = refl;
+      places = λ t a s. refl;
       whole = refl;
       length′ = refl;
       kind = lit< tt;
@@ -59,6 +71,7 @@ shaped (Rejected e n) =
       numbers = rw (event-is e);
       fitting = event-fits e;
       paired = refl;
+      places = λ t a s. refl;
       whole = refl;
       length′ = refl;
       kind = lit< tt;
@@ -70,6 +83,7 @@ shaped (Held e n) =
       numbers = rw (event-is e);
       fitting = event-fits e;
       paired = refl;
+      places = λ t a s. refl;
       whole = refl;
       length′ = refl;
       kind = lit< tt;
@@ -81,6 +95,7 @@ shaped Noted =
       numbers = refl;
       fitting = refl;
       paired = refl;
+      places = λ t a s. refl;
       whole = refl;
       length′ = refl;
       kind = lit< tt;
@@ -92,6 +107,7 @@ shaped (Applied e n) =
       numbers = rw (event-is e);
       fitting = event-fits e;
       paired = refl;
+      places = λ t a s. refl;
       whole = refl;
       length′ = refl;
       kind = lit< tt;
@@ -103,6 +119,7 @@ shaped (Dropped e) =
       numbers = rw (event-is e);
       fitting = event-fits e;
       paired = refl;
+      places = λ t a s. refl;
       whole = refl;
       length′ = refl;
       kind = lit< tt;

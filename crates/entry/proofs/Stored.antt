@@ -1,25 +1,29 @@
 -- Entries stored one after the other are one run of stores, as long as their lengths together. By induction on the list of entries;
 -- one entry more is one step of the loops that count and store them.
 -- Assumes nothing.
-use Prim.Native.Nat.{ℕ, _+_, _≤_, _<_, min}
-use native.Mathlib.Nat.{add-assoc, zero-add, add-zero}
+use Prim.Native.Nat.{ℕ, _+_, _*_, _≤_, _<_, min}
+use native.Mathlib.Nat.{add-assoc, zero-add, add-zero, mul-suc}
 use native.Mathlib.Numerals.{add-one}
 use native.Mathlib.Omega.{arith}
 use mathlib.Core.Path.{_≡_, refl, sym, _∙_}
 use mathlib.Core.Bool.{Bool, true, false}
-use mathlib.Core.List.{List, [], _∷_, _++_, append-nil, append-assoc}
+use mathlib.Core.List.{List, [], _∷_, _++_, map, append-nil, append-assoc}
 use borrow.Author.Tests.{leb-true, leb-false}
 use lib.Dec.{leb}
 use lib.ListN.{length, getD, take, length-append}
 use lib.Seq.{sets, take-suc, take-all}
 use Rattle.account.specs.declared.Event.the-variants.{Open}
+use Rattle.account.specs.declared.Told.{Told}
 use Rattle.account.specs.declared.Told.the-variants.{Accepted}
 use Rattle.account.specs.declared.Entry.{Entry}
-use Rattle.layout.specs.Fields.{rowOf, widthsOf, heading, thenOf, written}
+use Rattle.layout.specs.Fields.{rowOf, widthsOf, written}
+use Rattle.layout.specs.Shapes.{wide, padded, shapeOf}
 use Rattle.layout.proofs.Stores.{sets-more}
-use Rattle.layout.proofs.Fields.{length-written, sets-fields}
-use Rattle.entry.specs.Bytes.{entryRows, kindOf, thenNumbers, numbersOf, bytesOfEntry, lengthOfTold, bytesOfEntries, wholesOf}
-use Rattle.entry.proofs.Shapes.{shaped}
+use Rattle.layout.proofs.Fields.{length-written}
+use Rattle.layout.proofs.Shapes.{found-holds, padded-written}
+use Rattle.layout.proofs.Tables.{longest}
+use Rattle.entry.specs.Bytes.{entryRows, kindOf, numbersOf, bytesOfEntry, lengthOfTold, bytesOfEntries, wholesOf}
+use Rattle.entry.proofs.Shapes.{rows-hold, shaped}
 
 pub length-entry : (account : ℕ) (e : Entry) → length (bytesOfEntry account e) ≡ lengthOfTold (e .told)
 unfolding bytesOfEntry
@@ -41,15 +45,24 @@ unfolding wholesOf
 wholes-append [] ys = sym (zero-add (wholesOf ys))
 wholes-append (x ∷ xs) ys = rw (add-assoc, wholes-append xs ys)
 
--- the heading and what follows it are the entry
-pub entry-stored : (account at kind : ℕ) (e : Entry) (l l₁ l₂ : List ℕ) → kind ≡ kindOf (e .told)
-    → l₁ ≡ sets l at (written heading (kind ∷ e .transaction ∷ account ∷ e .second ∷ []))
-    → l₂ ≡ sets l₁ (at + 11) (written (thenOf (rowOf entryRows (kindOf (e .told)))) (thenNumbers (e .told)))
-    → l₂ ≡ sets l at (bytesOfEntry account e)
-unfolding bytesOfEntry
-entry-stored account at kind e l l₁ l₂ k e₁ e₂ =
-    sets-fields heading (thenOf (rowOf entryRows (kindOf (e .told)))) (kindOf (e .told) ∷ e .transaction ∷ account ∷ e .second ∷ []) (thenNumbers (e .told))
-    at 11 l l₁ l₂ refl refl (rw k at e₁) e₂
+-- stored by the row of its kind, places behind it and all, an entry is its bytes
+pub row-bytes : (account : ℕ) (e : Entry) → written (map wide (shapeOf (rowOf entryRows (kindOf (e .told))) .widths)) (padded (numbersOf account e)) ≡ bytesOfEntry account e
+unfolding bytesOfEntry lengthOfTold
+row-bytes account e =
+    let told = e .told in
+    let found = rowOf entryRows (kindOf told) in
+    let whole : 0 < lengthOfTold told = rw (← shaped told .whole) (omega arith) in
+    rw (found-holds entryRows (kindOf told) rows-hold whole .widths) (padded-written (widthsOf found) (numbersOf account e) (rw (shaped told .paired)))
+
+-- no entry has more than 40 bytes
+pub short-told : (told : Told) → lengthOfTold told ≤ 40
+unfolding lengthOfTold entryRows
+short-told told = longest 40 entryRows (kindOf told) (omega arith)
+
+pub wholes-short : (es : List Entry) → wholesOf es ≤ 40 * length es
+unfolding wholesOf
+wholes-short [] = omega arith
+wholes-short (e ∷ es) = rw mul-suc (omega (arith, short-told (e .told), wholes-short es))
 
 -- what the code's arrays give past their end, where nothing looks
 abbrev pub noEntry : Entry

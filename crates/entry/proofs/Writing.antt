@@ -1,10 +1,10 @@
--- The ways out of the writer of entries, one law each. `used` is the number of places that are used, as the code counts it.
+-- The ways out of the writer of entries, one law each.
 -- Assumes nothing.
-use Prim.Native.Nat.{ℕ, _≤_, _<_, min}
-use mathlib.Core.Path.{_≡_, sym, _∙_}
+use Prim.Native.Nat.{ℕ, _≤_, _<_}
+use mathlib.Core.Path.{_≡_, _∙_}
 use mathlib.Core.List.{List}
 use borrow.Author.Tests.{lt-ltb, le-ltb}
-use lib.ListN.{length, take}
+use lib.ListN.{length}
 use lib.Seq.{sets}
 use Rattle.account.specs.declared.Entries.{Entries}
 use Rattle.layout.specs.declared.Writing.the-variants as Writing′
@@ -12,29 +12,22 @@ use Rattle.layout.specs.Answers.{wroteOver, refusedWith}
 use Rattle.layout.proofs.Stores.{laid-over}
 use Rattle.entry.specs.Bytes.{bytesOfEntries, wholesOf, listOf}
 use Rattle.entry.specs.Answers.{longestCall, writeOf}
-use Rattle.entry.proofs.Stored.{length-entries, all-places}
+use Rattle.entry.proofs.Stored.{length-entries}
 
 pub write-small : (entries : Entries) (account : ℕ) (l : List ℕ) → length l < longestCall → writeOf entries account l ≡ refusedWith 4 l
 unfolding writeOf
 write-small entries account l h = rw (lt-ltb (length l) longestCall h)
 
-module _ (entries : Entries) (account : ℕ) (l : List ℕ) (places : length (entries .at) ≡ 17) (used whole : ℕ) (u : used ≡ min (entries .count) 17)
-    (w : whole ≡ wholesOf (take used (entries .at))) (room : longestCall ≤ length l) where
-  listed : take used (entries .at) ≡ listOf entries
-  listed = rw u (all-places (entries .at) (entries .count) places)
-
-  pub whole-bytes : length (bytesOfEntries account (listOf entries)) ≡ whole
-  whole-bytes = rw (← listed) (length-entries account (take used (entries .at)) ∙ sym w)
-
-  pub write-short : length l < whole → writeOf entries account l ≡ refusedWith 4 l
+module _ (entries : Entries) (account : ℕ) (l : List ℕ) (room : longestCall ≤ length l) where
+  pub write-short : length l < wholesOf (listOf entries) → writeOf entries account l ≡ refusedWith 4 l
   unfolding writeOf
-  write-short h = rw (le-ltb (length l) longestCall room, whole-bytes, lt-ltb (length l) whole h)
+  write-short h = rw (le-ltb (length l) longestCall room, length-entries account (listOf entries), lt-ltb (length l) (wholesOf (listOf entries)) h)
 
-  pub write-stored : (l′ : List ℕ) → whole ≤ length l → l′ ≡ sets l 0 (bytesOfEntries account (take used (entries .at)))
-      → (Writing′.Written whole ≡ writeOf entries account l .answer) × (l′ ≡ writeOf entries account l .buffer)
+  pub write-stored : (l′ : List ℕ) → wholesOf (listOf entries) ≤ length l → l′ ≡ sets l 0 (bytesOfEntries account (listOf entries))
+      → (Writing′.Written (wholesOf (listOf entries)) ≡ writeOf entries account l .answer) × (l′ ≡ writeOf entries account l .buffer)
   unfolding writeOf
   write-stored l′ h e =
       let bytes = bytesOfEntries account (listOf entries) in
-      let fits : length bytes ≤ length l = rw whole-bytes h in
-      let t : writeOf entries account l ≡ wroteOver bytes l = rw (le-ltb (length l) longestCall room, le-ltb (length l) (length bytes) fits) in
-      (rw (t, whole-bytes), rw t (e ∙ rw listed (laid-over bytes l fits)))
+      let n : length bytes ≡ wholesOf (listOf entries) = length-entries account (listOf entries) in
+      let t : writeOf entries account l ≡ wroteOver bytes l = rw (le-ltb (length l) longestCall room, le-ltb (length l) (length bytes) (rw n h)) in
+      (rw (t, n), rw t (e ∙ laid-over bytes l (rw n h)))

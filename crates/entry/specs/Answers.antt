@@ -10,11 +10,10 @@ use Rattle.account.specs.declared.Entry.{Entry}
 use Rattle.account.specs.declared.Entries.{Entries}
 use Rattle.layout.specs.Number.{numberAt}
 use Rattle.layout.specs.Fields.{Row, rowOf, widthsOf, numbersAt, lastAccount}
-use Rattle.layout.specs.Events.{eventOf}
 use Rattle.layout.specs.Answers.{Wrote, wroteOver, refusedWith}
 use Rattle.entry.specs.declared.EntryReading.{EntryReading}
 use Rattle.entry.specs.declared.EntryReading.the-variants.{Found, Nothing}
-use Rattle.entry.specs.Bytes.{entryRows, bytesOfEntries, listOf, toldBy, entryOf}
+use Rattle.entry.specs.Bytes.{entryRows, bytesOfEntries, listOf, entryOf}
 
 -- no call writes more: 11 for the commit, 20 for each of eight applied, 18 for each of eight votes (9.5)
 abbrev pub longestCall : ℕ
@@ -60,16 +59,3 @@ readKind (some r) bytes = cond (ltb (length bytes) (r .whole)) Nothing (readNumb
 -- the reader of one entry; bytes behind it play no part (9.6)
 unfoldable pub readOf : (bytes : List ℕ) → EntryReading
 readOf bytes = readKind (rowOf entryRows (numberAt bytes 0 1)) bytes
-
--- the same entry by its places: the number that follows the event, of the width that the kind gives it,
-abbrev pub numberAfter : (bytes : List ℕ) (kind : ℕ) → ℕ
-numberAfter bytes kind = cond (eqb kind 21) (numberAt bytes 16 4) (numberAt bytes 16 2)
-
--- and the entry of that kind
-abbrev pub entryAt : (bytes : List ℕ) (kind : ℕ) → Entry
-entryAt bytes kind =
-    record {
-      transaction = numberAt bytes 1 4;
-      second = numberAt bytes 7 4;
-      told = toldBy kind (eventOf (numberAt bytes 11 1) (numberAt bytes 12 4)) (numberAfter bytes kind);
-    }

@@ -75,11 +75,15 @@ toldBy kind e number =
     (cond (eqb kind 20) Noted
     (cond (eqb kind 21) (Applied e number) (Dropped e)))))
 
--- the entry that these numbers are
-abbrev pub entryOf : (numbers : List ℕ) → Entry
-entryOf numbers =
+-- the entry of a kind 17 to 22 whose numbers these are
+abbrev pub entryBy : (kind : ℕ) (numbers : List ℕ) → Entry
+entryBy kind numbers =
     record {
       transaction = getD numbers 1 0;
       second = getD numbers 3 0;
-      told = toldBy (getD numbers 0 0) (eventOf (getD numbers 4 0) (getD numbers 5 0)) (getD numbers 6 0);
+      told = toldBy kind (eventOf (getD numbers 4 0) (getD numbers 5 0)) (getD numbers 6 0);
     }
+
+-- the entry that these numbers are
+abbrev pub entryOf : (numbers : List ℕ) → Entry
+entryOf numbers = entryBy (getD numbers 0 0) numbers

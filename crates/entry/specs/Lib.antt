@@ -1,4 +1,5 @@
 pub mod Bytes
+pub mod Numbers
 pub mod Answers
 pub mod Inverse
 pub mod Longest

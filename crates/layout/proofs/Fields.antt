@@ -1,16 +1,17 @@
 -- Fields one after the other: how long they are, that storing them one by one is storing them all, and that reading and writing are inverse.
 -- By induction on the widths, from the laws on one number.
 -- Assumes nothing.
-use Prim.Native.Nat.{ℕ, _+_, _^_, _≤_, _<_}
+use Prim.Native.Nat.{ℕ, suc, _+_, _^_, _≤_, _<_}
+use native.Mathlib.Numerals.{add-one}
 use native.Mathlib.Omega.{arith}
-use mathlib.Core.Path.{_≡_, refl, _∙_}
-use mathlib.Core.List.{List, [], _∷_, _++_, append-nil, append-assoc}
-use lib.ListN.{length, take, drop, length-append}
-use lib.Seq.{sets, take-add, drop-drop}
+use mathlib.Core.Path.{_≡_, refl, ap, sym, _∙_}
+use mathlib.Core.List.{List, [], _∷_, _++_, append-assoc}
+use lib.ListN.{length, getD, take, drop, set, length-append}
+use lib.Seq.{sets, take-add, drop-drop, drop-cons, take-suc-set, append-snoc}
 use Rattle.layout.specs.Number.{bytesOf, numberAt, AreBytes}
 use Rattle.layout.specs.Fields.{written, numbersAt, total, heading, lastAccount}
 use Rattle.layout.specs.Inverse.{NumbersRead, NumbersWritten, Fit, none, one, FieldsRead, FieldsWritten}
-use Rattle.layout.proofs.Stores.{sets-more}
+use Rattle.layout.proofs.Stores.{sets-append}
 use Rattle.layout.proofs.Numbers.{length-bytesOf, numberAt-fits, numberAt-bytesOf, bytesOf-numberAt}
 
 pub fit-head : {width number : ℕ} {widths numbers : List ℕ} → Fit (width ∷ widths) (number ∷ numbers) → number < 256 ^ width
@@ -61,30 +62,21 @@ written-append [] vs (n ∷ ns) ms h = absurd (omega arith)
 written-append (w ∷ ws) vs [] ms h = absurd (omega arith)
 written-append (w ∷ ws) vs (n ∷ ns) ms h = rw (append-assoc, written-append ws vs ns ms (omega arith))
 
--- the stores of one number are those of a run of one
-pub sets-field : (w n i : ℕ) (l l₁ : List ℕ) → l₁ ≡ sets l i (bytesOf w n) → l₁ ≡ sets l i (written (w ∷ []) (n ∷ []))
+-- one step of the loop that stores a row: what is left to store after it, and before
+pub put-one : (ws ns l : List ℕ) (to i width : ℕ) → i < length ws → i < length ns → width ≡ getD ws i 0
+    → sets (sets l to (bytesOf width (getD ns i 0))) (to + width) (written (drop (i + 1) ws) (drop (i + 1) ns)) ≡ sets l to (written (drop i ws) (drop i ns))
 unfolding written
-sets-field w n i l l₁ e = rw append-nil e
+put-one ws ns l to i width h k w =
+    rw (drop-cons ws i 0 h, drop-cons ns i 0 k, ← w, add-one i)
+    (ap (λ (n : ℕ). sets (sets l to (bytesOf width (getD ns i 0))) (to + n) (written (drop (suc i) ws) (drop (suc i) ns))) (sym (length-bytesOf width (getD ns i 0)))
+    ∙ sets-append (bytesOf width (getD ns i 0)) (written (drop (suc i) ws) (drop (suc i) ns)) l to)
 
--- stores of fields that go on where others ended
-pub sets-fields : (ws vs ns ms : List ℕ) (i k : ℕ) (l l₁ l₂ : List ℕ) → length ws ≡ length ns → total ws ≡ k
-    → l₁ ≡ sets l i (written ws ns) → l₂ ≡ sets l₁ (i + k) (written vs ms) → l₂ ≡ sets l i (written (ws ++ vs) (ns ++ ms))
-sets-fields ws vs ns ms i k l l₁ l₂ h n e₁ e₂ =
-    rw (written-append ws vs ns ms h) (sets-more (written ws ns) (written vs ms) l l₁ l₂ i k (length-written ws ns h ∙ n) e₁ e₂)
-
--- one field more, stored where the others ended
-pub sets-one : (ws ns : List ℕ) (w n i k : ℕ) (l l₁ l₂ : List ℕ) → length ws ≡ length ns → total ws ≡ k
-    → l₁ ≡ sets l i (written ws ns) → l₂ ≡ sets l₁ (i + k) (bytesOf w n) → l₂ ≡ sets l i (written (ws ++ (w ∷ [])) (ns ++ (n ∷ [])))
-sets-one ws ns w n i k l l₁ l₂ h e e₁ e₂ = sets-fields ws (w ∷ []) ns (n ∷ []) i k l l₁ l₂ h e e₁ (sets-field w n (i + k) l₁ l₂ e₂)
-
--- the four stores of a heading are one run of stores
-pub sets-heading : (kind transaction account second i : ℕ) (l l₁ l₂ l₃ l₄ : List ℕ) → l₁ ≡ sets l i (bytesOf 1 kind)
-    → l₂ ≡ sets l₁ (i + 1) (bytesOf 4 transaction) → l₃ ≡ sets l₂ (i + 5) (bytesOf 2 account) → l₄ ≡ sets l₃ (i + 7) (bytesOf 4 second)
-    → l₄ ≡ sets l i (written heading (kind ∷ transaction ∷ account ∷ second ∷ []))
-sets-heading kind transaction account second i l l₁ l₂ l₃ l₄ e₁ e₂ e₃ e₄ =
-    sets-one (1 ∷ 4 ∷ 2 ∷ []) (kind ∷ transaction ∷ account ∷ []) 4 second i 7 l l₃ l₄ refl refl
-    (sets-one (1 ∷ 4 ∷ []) (kind ∷ transaction ∷ []) 2 account i 5 l l₂ l₃ refl refl
-    (sets-one (1 ∷ []) (kind ∷ []) 4 transaction i 1 l l₁ l₂ refl refl (sets-field 1 kind i l l₁ e₁) e₂) e₃) e₄
+-- one step of the loop that reads a row: what was read and what is left to read
+pub read-one : (ws ns bytes : List ℕ) (from i width : ℕ) → i < length ws → i < length ns → width ≡ getD ws i 0
+    → take (i + 1) (set ns i (numberAt bytes from width)) ++ numbersAt (drop (i + 1) ws) bytes (from + width) ≡ take i ns ++ numbersAt (drop i ws) bytes from
+unfolding numbersAt
+read-one ws ns bytes from i width h k w =
+    rw (drop-cons ws i 0 h, ← w, add-one i, take-suc-set ns i (numberAt bytes from width) k) (append-snoc (take i ns) (numberAt bytes from width) (numbersAt (drop (suc i) ws) bytes (from + width)))
 
 -- a heading whose numbers fit, and what follows it
 pub fit-heading : {then numbers : List ℕ} (kind transaction account second : ℕ) → kind < 256 ^ 1 → transaction < 256 ^ 4 → account ≤ lastAccount

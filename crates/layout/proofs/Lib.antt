@@ -2,6 +2,7 @@ pub mod Vectors
 pub mod Stores
 pub mod Numbers
 pub mod Fields
+pub mod Shapes
 pub mod Tables
 pub mod Events
 pub mod Answers

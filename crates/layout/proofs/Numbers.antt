@@ -2,7 +2,7 @@
 -- are inverse. By induction on the width: the last byte is the remainder by 256, and those before it are the bytes of the quotient.
 -- Assumes nothing.
 use Prim.Native.Nat.{ℕ, zero, suc, _+_, _*_, _/_, _%_, _^_, _≤_, _<_}
-use native.Mathlib.Nat.{add-zero, add-suc, zero-add, add-assoc, mul-assoc, mul-comm, pow-suc, pow-zero, div-div-eq-div-mul, div-lt-iff-lt-mul, div-one, mul-one, mod-lt, mod-eq-of-lt, div-add-mod'}
+use native.Mathlib.Nat.{add-zero, add-suc, zero-add, add-assoc, add-comm, mul-assoc, mul-comm, pow-suc, pow-zero, div-div-eq-div-mul, div-lt-iff-lt-mul, div-one, mul-one, mod-lt, mod-eq-of-lt, div-add-mod'}
 use native.Mathlib.Numerals.{add-one}
 use native.Mathlib.Omega.{arith}
 use mathlib.Core.Path.{_≡_, refl, sym, ap}
@@ -12,14 +12,14 @@ use lib.Dec.{lit<}
 use lib.ListN.{length, getD, take, drop, length-append, length-drop, List·getD-eq-default}
 use lib.Seq.{sets, append-snoc, getD-at, getD-drop, take-suc}
 use Rattle.layout.specs.Number.{bytesOf, numberAt, AreBytes}
-use Rattle.layout.proofs.Stores.{sets-more}
+use Rattle.layout.proofs.Stores.{sets-before}
 
 pub length-bytesOf : (width number : ℕ) → length (bytesOf width number) ≡ width
 unfolding bytesOf
 length-bytesOf zero number = refl
 length-bytesOf (suc width) number = rw (length-append, length-bytesOf width (number / 256)) (add-one width)
 
-pow-pos : (width : ℕ) → zero < 256 ^ width
+pub pow-pos : (width : ℕ) → zero < 256 ^ width
 pow-pos zero = rw pow-zero (lit< tt)
 pow-pos (suc width) = let h : zero < 256 ^ width = pow-pos width in rw pow-suc (omega arith)
 
@@ -43,12 +43,14 @@ pub bytesOf-one : (number : ℕ) → number < 256 → bytesOf 1 number ≡ numbe
 unfolding bytesOf
 bytesOf-one number h = rw (mod-eq-of-lt h)
 
--- storing a number in two parts
-pub sets-parts : (high low number i : ℕ) (l l₁ l₂ : List ℕ) → l₁ ≡ sets l i (bytesOf high (number / 256 ^ low))
-    → l₂ ≡ sets l₁ (i + high) (bytesOf low (number % 256 ^ low)) → l₂ ≡ sets l i (bytesOf (high + low) number)
-sets-parts high low number i l l₁ l₂ e₁ e₂ =
-    rw (bytesOf-parts high low number, ← bytesOf-low low number)
-    (sets-more (bytesOf high (number / 256 ^ low)) (bytesOf low (number % 256 ^ low)) l l₁ l₂ i high (length-bytesOf high (number / 256 ^ low)) e₁ e₂)
+-- storing one byte more in front of those that are stored: `count` of them, and one
+pub sets-front : (count number i rest : ℕ) (l l₁ l₂ : List ℕ) → rest ≡ number / 256 ^ count → l₁ ≡ sets l (i + 1) (bytesOf count number)
+    → l₂ ≡ sets l₁ i (bytesOf 1 (rest % 256)) → l₂ ≡ sets l i (bytesOf (count + 1) number)
+sets-front count number i rest l l₁ l₂ r e₁ e₂ =
+    let parts : bytesOf (count + 1) number ≡ number / 256 ^ count % 256 ∷ bytesOf count number =
+    rw (add-comm count 1, bytesOf-parts 1 count number, ← bytesOf-low 1 (number / 256 ^ count), bytesOf-one (number / 256 ^ count % 256) (mod-lt (number / 256 ^ count) (lit< tt))) in
+    let byte : bytesOf 1 (number / 256 ^ count % 256) ≡ number / 256 ^ count % 256 ∷ [] = bytesOf-one (number / 256 ^ count % 256) (mod-lt (number / 256 ^ count) (lit< tt)) in
+    rw (parts, e₂, e₁, r, byte, add-one i) (sets-before (number / 256 ^ count % 256) (bytesOf count number) l i)
 
 -- a number past the end is 0
 pub numberAt-out : (width at : ℕ) (bytes : List ℕ) → length bytes ≤ at → numberAt bytes at width ≡ 0
@@ -64,10 +66,20 @@ numberAt-parts high zero at bytes = rw (add-zero high, pow-zero, mul-one, add-ze
 numberAt-parts high (suc low) at bytes =
     rw (add-suc, pow-suc, numberAt-parts high low at bytes, ← mul-assoc, ← add-assoc at high low) (omega arith)
 
--- the same, of the parts' values
-pub numberAt-from : (high low at a b : ℕ) (bytes : List ℕ) → a ≡ numberAt bytes at high → b ≡ numberAt bytes (at + high) low
-    → a * 256 ^ low + b ≡ numberAt bytes at (high + low)
-numberAt-from high low at a b bytes p q = rw (p, q) (sym (numberAt-parts high low at bytes))
+-- one byte more, and that four bytes hold what comes of it
+pub numberAt-more : (i at number byte : ℕ) (bytes : List ℕ) → number ≡ numberAt bytes at i → byte ≡ numberAt bytes (at + i) 1
+    → number * 256 + byte ≡ numberAt bytes at (i + 1)
+numberAt-more i at number byte bytes p q = rw (p, q) (sym (numberAt-parts i 1 at bytes))
+
+pub more-fits : (i number byte : ℕ) → number < 256 ^ i → byte < 256 → number * 256 + byte < 256 ^ (i + 1)
+more-fits i number byte h b = rw (add-one i, pow-suc) (digits-lt h b)
+
+pub three-fit : (i number : ℕ) → i < 4 → number < 256 ^ i → number < 16_777_216
+three-fit zero number h p = omega arith
+three-fit (suc zero) number h p = omega arith
+three-fit (suc (suc zero)) number h p = omega arith
+three-fit (suc (suc (suc zero))) number h p = omega arith
+three-fit (suc (suc (suc (suc i)))) number h p = absurd (omega arith)
 
 pub numberAt-one : (at : ℕ) (bytes : List ℕ) → numberAt bytes at 1 ≡ getD bytes at 0
 unfolding numberAt

@@ -1,6 +1,6 @@
 -- Tables of kinds: what holds of every row holds of the row found, and a kind that no row has is not found. By induction on the rows.
 -- Assumes nothing.
-use Prim.Native.Nat.{ℕ, _<_}
+use Prim.Native.Nat.{ℕ, _≤_, _<_}
 use native.Mathlib.Omega.{arith}
 use mathlib.Core.Path.{_≡_, refl, sym, subst}
 use mathlib.Core.Bool.{Bool, true, false, cond}
@@ -41,3 +41,13 @@ unknown (r ∷ rows) kind each h = go (eqb kind (r .kind)) (unknown rows kind (e
         → wholeOf (cond b (some r) (rowOf rows kind)) ≡ 0 → cond b (some r) (rowOf rows kind) ≡ none
     go true rest h = absurd (omega (arith, each .0))
     go false rest h = rest h
+
+-- no length is above one that no row's is above
+pub longest : (most : ℕ) (rows : List Row) (kind : ℕ) → Each (λ (r : Row). r .whole ≤ most) rows → wholeOf (rowOf rows kind) ≤ most
+unfolding rowOf
+longest most [] kind each = omega arith
+longest most (r ∷ rows) kind each = go (eqb kind (r .kind)) (longest most rows kind (each .1))
+  where
+    go : (b : Bool) → wholeOf (rowOf rows kind) ≤ most → wholeOf (cond b (some r) (rowOf rows kind)) ≤ most
+    go true rest = each .0
+    go false rest = rest

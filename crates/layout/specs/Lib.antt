@@ -1,5 +1,6 @@
 pub mod Number
 pub mod Fields
+pub mod Shapes
 pub mod Events
 pub mod Answers
 pub mod Inverse

@@ -1,21 +1,72 @@
-// What messages and entries share of their bytes: numbers, highest byte first, the heading, an event's kind and amount.
+// What messages and entries share of their bytes: numbers, highest byte first, rows of them, an event's kind and amount.
 // Every function takes any buffer and any place: a byte past the end is not stored, and counts as 0 when it is read.
 ghost use mathlib.Core.Path.{_≡_};
-ghost use mathlib.Core.List.{[], _∷_};
+ghost use mathlib.Core.List.{map};
+ghost use lib.ListN.{length};
 ghost use lib.Seq.{sets};
-ghost use Prim.Native.Nat.{_<_};
+ghost use Prim.Native.Nat.{_+_, _≤_, _<_, _^_};
 ghost use Rattle.layout.specs.Number.{bytesOf, numberAt};
-ghost use Rattle.layout.specs.Fields.{written, heading};
+ghost use Rattle.layout.specs.Fields.{written, numbersAt};
+ghost use Rattle.layout.specs.Shapes.{wide};
 ghost use Rattle.layout.specs.Events.{eventKind, amountOf, eventOf};
 use account::Event;
 
 // The accounts are numbered from 0 to this one.
 pub const LAST_ACCOUNT: u16 = 15;
 
+// The most numbers that a row has.
+pub const FIELDS: usize = 10;
+
+// How a kind of message or entry lies in bytes: the widths of its numbers, 0 where it has no more of them, and its whole length.
+pub struct Shape {
+    pub widths: [u8; FIELDS],
+    pub whole: usize,
+}
+
+impl Shape {
+    // That of no kind.
+    pub const NONE: Shape = Shape {
+        widths: [0; FIELDS],
+        whole: 0,
+    };
+}
+
 // What a writer answers: the length written, or the number of its refusal.
 pub enum Writing {
     Written(usize),
     Refused(u8),
+}
+
+// Stores a row of numbers from `at` on, each by its width.
+pub fn put_numbers(buffer: &mut [u8], at: usize, widths: [u8; FIELDS], numbers: [u32; FIELDS])
+    ensures { λ _. ⌜ now (buffer .exit) ≡ sets (now (buffer .entry)) at (written (map wide widths) numbers) ⌝ }
+{
+    if at < buffer.len() {
+        let mut to = at;
+        let mut i = 0;
+        while i < FIELDS {
+            let width = widths[i];
+            put(buffer, to, width, numbers[i]);
+            to += bytes_in(width);
+            i += 1;
+        }
+    }
+}
+
+// The row of numbers at the beginning of the bytes, each by its width.
+pub fn read_numbers(bytes: &[u8], widths: [u8; FIELDS]) -> [u32; FIELDS]
+    ensures { λ r. ⌜ r ≡ numbersAt (map wide widths) (now (bytes .entry)) 0 ⌝ }
+{
+    let mut numbers = [0; FIELDS];
+    let mut from = 0;
+    let mut i = 0;
+    while i < FIELDS {
+        let width = widths[i];
+        numbers[i] = number(bytes, from, width);
+        from += bytes_in(width);
+        i += 1;
+    }
+    numbers
 }
 
 // Stores a number of 1 byte at `at`.
@@ -24,45 +75,6 @@ pub fn put1(buffer: &mut [u8], at: usize, number: u8)
 {
     if at < buffer.len() {
         buffer[at] = number;
-    }
-}
-
-// Stores a number of 2 bytes from `at` on.
-pub fn put2(buffer: &mut [u8], at: usize, number: u16)
-    ensures { λ _. ⌜ now (buffer .exit) ≡ sets (now (buffer .entry)) at (bytesOf 2 number) ⌝ }
-{
-    if at < buffer.len() {
-        put1(buffer, at, (number / 256) as u8);
-        put1(buffer, at + 1, (number % 256) as u8);
-    }
-}
-
-// Stores a number of 4 bytes from `at` on.
-pub fn put4(buffer: &mut [u8], at: usize, number: u32)
-    ensures { λ _. ⌜ now (buffer .exit) ≡ sets (now (buffer .entry)) at (bytesOf 4 number) ⌝ }
-{
-    if at < buffer.len() {
-        put2(buffer, at, (number / 65536) as u16);
-        put2(buffer, at + 2, (number % 65536) as u16);
-    }
-}
-
-// Stores the heading of a message or an entry from `at` on.
-pub fn put_heading(
-    buffer: &mut [u8],
-    at: usize,
-    kind: u8,
-    transaction: u32,
-    account: u16,
-    second: u32,
-)
-    ensures { λ _. ⌜ now (buffer .exit) ≡ sets (now (buffer .entry)) at (written heading (kind ∷ transaction ∷ account ∷ second ∷ [])) ⌝ }
-{
-    if at < buffer.len() {
-        put1(buffer, at, kind);
-        put4(buffer, at + 1, transaction);
-        put2(buffer, at + 5, account);
-        put4(buffer, at + 7, second);
     }
 }
 
@@ -77,22 +89,20 @@ pub fn number1(bytes: &[u8], at: usize) -> u8
 pub fn number2(bytes: &[u8], at: usize) -> u16
     ensures { λ r. ⌜ r ≡ numberAt (now (bytes .entry)) at 2 ⌝ }
 {
-    if at < bytes.len() {
-        wide2(number1(bytes, at)) * 256 + wide2(number1(bytes, at + 1))
-    } else {
-        0
-    }
+    by_bytes(bytes, at, 2) as u16
 }
 
-// The number in the 4 bytes from `at` on.
+// The number in the 4 bytes from `at` on, in one step where all four are there.
 pub fn number4(bytes: &[u8], at: usize) -> u32
     ensures { λ r. ⌜ r ≡ numberAt (now (bytes .entry)) at 4 ⌝ }
 {
-    if at < bytes.len() {
-        wide4(number2(bytes, at)) * 65536 + wide4(number2(bytes, at + 2))
-    } else {
-        0
+    if bytes.len() <= at {
+        return 0;
     }
+    if 3 < bytes.len() - at {
+        return four(bytes, at);
+    }
+    by_bytes(bytes, at, 4)
 }
 
 // The kind of an event.
@@ -131,16 +141,89 @@ pub fn event_of(kind: u8, amount: u32) -> Event
     }
 }
 
-// A byte as a number of 2 bytes.
-fn wide2(byte: u8) -> u16
-    ensures { λ r. ⌜ (r ≡ byte) × (r < 256) ⌝ }
+// How many bytes a number of that width has.
+fn bytes_in(width: u8) -> usize
+    ensures { λ r. ⌜ (r ≡ wide width) × (r ≤ 4) ⌝ }
 {
-    byte as u16
+    match width {
+        0 => 0,
+        1 => 1,
+        2 => 2,
+        _ => 4,
+    }
 }
 
-// A number of 2 bytes as one of 4.
-fn wide4(number: u16) -> u32
-    ensures { λ r. ⌜ (r ≡ number) × (r < 65536) ⌝ }
+// Stores a number of that width from `at` on.
+fn put(buffer: &mut [u8], at: usize, width: u8, number: u32)
+    ensures { λ _. ⌜ now (buffer .exit) ≡ sets (now (buffer .entry)) at (bytesOf (wide width) number) ⌝ }
 {
-    number as u32
+    match width {
+        0 => {}
+        1 => put_bytes(buffer, at, 1, number),
+        2 => put_bytes(buffer, at, 2, number),
+        _ => put_bytes(buffer, at, 4, number),
+    }
+}
+
+// Stores the lowest bytes of a number, as many as the width says, from the last to the first.
+fn put_bytes(buffer: &mut [u8], at: usize, width: usize, number: u32)
+    requires { ⌜ width ≤ 4 ⌝ }
+    ensures { λ _. ⌜ now (buffer .exit) ≡ sets (now (buffer .entry)) at (bytesOf width number) ⌝ }
+{
+    if at < buffer.len() {
+        let mut rest = number;
+        let mut left = width;
+        while 0 < left {
+            left -= 1;
+            put1(buffer, at + left, (rest % 256) as u8);
+            rest = rest / 256;
+        }
+    }
+}
+
+// The number of that width from `at` on.
+fn number(bytes: &[u8], at: usize, width: u8) -> u32
+    ensures { λ r. ⌜ r ≡ numberAt (now (bytes .entry)) at (wide width) ⌝ }
+{
+    match width {
+        0 => 0,
+        1 => by_bytes(bytes, at, 1),
+        2 => by_bytes(bytes, at, 2),
+        _ => number4(bytes, at),
+    }
+}
+
+// The number in four bytes.
+fn four(bytes: &[u8], at: usize) -> u32
+    requires { ⌜ at + 4 ≤ length (now bytes) ⌝ }
+    ensures { λ r. ⌜ r ≡ numberAt (now (bytes .entry)) at 4 ⌝ }
+{
+    wide_of(bytes[at]) * 16777216
+        + wide_of(bytes[at + 1]) * 65536
+        + wide_of(bytes[at + 2]) * 256
+        + wide_of(bytes[at + 3])
+}
+
+// The number in the bytes from `at` on, as many as the width says.
+fn by_bytes(bytes: &[u8], at: usize, width: usize) -> u32
+    requires { ⌜ width ≤ 4 ⌝ }
+    ensures { λ r. ⌜ (r ≡ numberAt (now (bytes .entry)) at width) × (r < 256 ^ width) ⌝ }
+{
+    if bytes.len() <= at {
+        return 0;
+    }
+    let mut number = 0;
+    let mut i = 0;
+    while i < width {
+        number = number * 256 + wide_of(number1(bytes, at + i));
+        i += 1;
+    }
+    number
+}
+
+// A byte as a number of 4 bytes.
+fn wide_of(byte: u8) -> u32
+    ensures { λ r. ⌜ (r ≡ byte) × (r < 256) ⌝ }
+{
+    byte as u32
 }

@@ -17,13 +17,14 @@ use Rattle.layout.specs.Inverse.{Fit}
 use Rattle.layout.proofs.Numbers.{numberAt-fits}
 use Rattle.layout.proofs.Fields.{fit-heading, numbersAt-written, written-numbersAt}
 use Rattle.layout.proofs.Tables.{present, unknown}
+use Rattle.layout.proofs.Shapes.{found-holds}
 use Rattle.message.specs.declared.Message.{Message}
 use Rattle.message.specs.declared.Reading.{Reading}
 use Rattle.message.specs.declared.Reading.the-variants as Reading′
 use Rattle.message.specs.Bytes.{messages, kindOf, headingOf, numbersOf, messageBy, messageOf, bytesOfMessage, lengthOfMessage}
 use Rattle.message.specs.Answers.{readOf, readKind, readNumbers}
 use Rattle.message.specs.Inverse.{ReadsWritten, WritesRead}
-use Rattle.message.proofs.Shapes.{shaped}
+use Rattle.message.proofs.Shapes.{rows-hold, shaped}
 use Rattle.message.proofs.Reader.{rest, taken-row}
 use Rattle.message.proofs.Writer.{length-message}
 
@@ -83,12 +84,6 @@ taken-of bytes m whole e =
     let p : wholeOf (rowOf messages kind) ≡ 0 → ⊥ = λ z. refused-is-none 2 m whole (rw (unknown messages kind (omega arith) z) at (s .1)) in
     by-row (rowOf messages kind) bytes m whole (omega arith) (s .1)
 
--- the widths of a row that was found make up its length
-whole-row : (kind : ℕ) → 0 < wholeOf (rowOf messages kind) → total (widthsOf (rowOf messages kind)) ≡ wholeOf (rowOf messages kind)
-unfolding rowOf messages
-whole-row kind p =
-    present (λ (k : ℕ). total (widthsOf (rowOf messages k)) ≡ wholeOf (rowOf messages k)) messages kind (refl, (refl, (refl, (refl, (refl, (refl, tt)))))) p
-
 -- the numbers that were read are those of the message
 numbers-row : (bytes : List ℕ) (kind : ℕ) → kind ≡ numberAt bytes 0 1 → 0 < wholeOf (rowOf messages kind)
     → numbersOf (messageOf (numbersAt (widthsOf (rowOf messages kind)) bytes 0)) ≡ numbersAt (widthsOf (rowOf messages kind)) bytes 0
@@ -118,7 +113,7 @@ writes-read bytes m whole b e =
     let t = taken-of bytes m whole e in
     let numbers : numbersOf m ≡ numbersAt (widthsOf found) bytes 0 = rw (t .message) at (numbers-row bytes kind refl (t .positive)) in
     let number : (i : ℕ) → getD (numbersOf m) i 0 ≡ getD (numbersAt (widthsOf found) bytes 0) i 0 = λ i. ap (λ (ns : List ℕ). getD ns i 0) numbers in
-    let sum : total (widthsOf found) ≡ wholeOf found = whole-row kind (t .positive) in
+    let sum : total (widthsOf found) ≡ wholeOf found = found-holds messages kind rows-hold (t .positive) .sum in
     let k : kindOf m ≡ kind = number 0 in
     record {
       bytes′ =

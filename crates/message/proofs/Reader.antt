@@ -3,19 +3,22 @@
 use Prim.Native.Nat.{ℕ, _≤_, _<_}
 use native.Mathlib.Omega.{arith}
 use mathlib.Core.Path.{_≡_, refl, sym, _∙_}
-use mathlib.Core.List.{List}
+use mathlib.Core.List.{List, map}
 use mathlib.Core.Option.{Option, none, some}
 use borrow.Author.Tests.{eq-eqb, ne-eqb, lt-ltb, le-ltb}
 use lib.ListN.{length, getD}
 use Rattle.layout.specs.Number.{numberAt}
 use Rattle.layout.specs.Fields.{Row, rowOf, wholeOf, thenOf, widthsOf, numbersAt, lastAccount}
+use Rattle.layout.specs.Shapes.{wide, shapeOf}
 use Rattle.layout.specs.Events.{eventOf}
 use Rattle.layout.proofs.Tables.{present, unknown}
+use Rattle.layout.proofs.Shapes.{found-holds, padded-read, padded-at}
 use Rattle.message.specs.declared.Heading.{Heading}
 use Rattle.message.specs.declared.Message.{Message}
 use Rattle.message.specs.declared.Reading.the-variants as Reading′
 use Rattle.message.specs.Bytes.{messages, messageBy, messageOf}
 use Rattle.message.specs.Answers.{readOf, readKind}
+use Rattle.message.proofs.Shapes.{rows-hold}
 
 -- the heading that the bytes hold
 abbrev pub headingAt : List ℕ → Heading
@@ -79,3 +82,27 @@ module _ (bytes : List ℕ) (kind whole : ℕ) (nonempty : length bytes ≡ 0 �
         rest
         ∙ taken-row found bytes (numbersAt (widthsOf found) bytes 0) positive (rw w at h) refl a
         ∙ rw (← k, amount-read kind (headingAt bytes) bytes positive, w)
+
+    -- the same by the numbers that the code reads: those of the row, and 0 in the places behind them
+    module _ (numbers : List ℕ) (n : numbers ≡ numbersAt (map wide (shapeOf (rowOf messages kind) .widths)) bytes 0) where
+      row-at : (i : ℕ) → getD numbers i 0 ≡ getD (numbersAt (widthsOf (rowOf messages kind)) bytes 0) i 0
+      row-at i =
+          let found = rowOf messages kind in
+          rw (n, found-holds messages kind rows-hold positive .widths, padded-read (widthsOf found) bytes 0) (padded-at (numbersAt (widthsOf found) bytes 0) i)
+
+      pub read-last : whole ≤ length bytes → lastAccount < getD numbers 2 0 → readOf bytes ≡ Reading′.Refused 3
+      unfolding numbersAt
+      read-last h a = read-account h (rw (row-at 2) at a)
+
+      pub read-row : whole ≤ length bytes → getD numbers 2 0 ≤ lastAccount
+          → readOf bytes
+          ≡ Reading′.Message
+          (messageBy kind (record { transaction = getD numbers 1 0; account = getD numbers 2 0; second = getD numbers 3 0 }) (getD numbers 4 0))
+          whole
+      unfolding numbersAt
+      read-row h a =
+          let found = rowOf messages kind in
+          let known : getD (numbersAt (widthsOf found) bytes 0) 2 0 ≤ lastAccount = rw (row-at 2) at a in
+          rest
+          ∙ taken-row found bytes (numbersAt (widthsOf found) bytes 0) positive (rw w at h) refl known
+          ∙ rw (row-at 1, row-at 2, row-at 3, row-at 4, ← k, w)

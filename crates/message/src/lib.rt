@@ -1,9 +1,11 @@
 // A message, its reader and its writer.
 ghost use mathlib.Core.Path.{_≡_};
 ghost use Rattle.layout.specs.Fields.{rowOf, wholeOf};
-ghost use Rattle.message.specs.Bytes.{messages, kindOf, headingOf, amountIn, messageBy};
+ghost use Rattle.layout.specs.Shapes.{padded, shapeOf};
+ghost use Rattle.message.specs.Bytes.{messages, kindOf, headingOf, amountIn, numbersOf, messageBy};
 ghost use Rattle.message.specs.Answers.{readOf, writeOf};
 use account::Event;
+use layout::Shape;
 use layout::Writing;
 
 // What every message brings.
@@ -33,22 +35,24 @@ pub fn read_message(bytes: &[u8]) -> Reading
         return Reading::Refused(1);
     }
     let kind = layout::number1(bytes, 0);
-    let whole = whole_length(kind);
-    if whole == 0 {
+    let shape = shape_of(kind);
+    if shape.whole == 0 {
         return Reading::Refused(2);
     }
-    if bytes.len() < whole {
+    if bytes.len() < shape.whole {
         return Reading::Refused(1);
     }
-    let heading = Heading {
-        transaction: layout::number4(bytes, 1),
-        account: layout::number2(bytes, 5),
-        second: layout::number4(bytes, 7),
-    };
-    if heading.account > layout::LAST_ACCOUNT {
+    let widths = shape.widths;
+    let numbers = layout::read_numbers(bytes, widths);
+    if numbers[2] > layout::LAST_ACCOUNT as u32 {
         return Reading::Refused(3);
     }
-    Reading::Message(message_of(kind, heading, layout::number4(bytes, 11)), whole)
+    let heading = Heading {
+        transaction: numbers[1],
+        account: numbers[2] as u16,
+        second: numbers[3],
+    };
+    Reading::Message(message_of(kind, heading, numbers[4]), shape.whole)
 }
 
 // Writes a message to the beginning of a buffer.
@@ -59,35 +63,47 @@ pub fn write_message(message: Message, buffer: &mut [u8]) -> Writing
     if layout::LAST_ACCOUNT < heading.account {
         return Writing::Refused(3);
     }
-    let kind = kind_of(message);
-    let whole = whole_length(kind);
-    if buffer.len() < whole {
+    let shape = shape_of(kind_of(message));
+    if buffer.len() < shape.whole {
         return Writing::Refused(4);
     }
-    layout::put_heading(
-        buffer,
-        0,
-        kind,
-        heading.transaction,
-        heading.account,
-        heading.second,
-    );
-    if 11 < whole {
-        layout::put4(buffer, 11, amount_of(message));
-    }
-    Writing::Written(whole)
+    let widths = shape.widths;
+    layout::put_numbers(buffer, 0, widths, numbers_of(message));
+    Writing::Written(shape.whole)
 }
 
 // The whole length of a message of a kind, and 0 for a kind that is none of 1 to 6.
 pub fn whole_length(kind: u8) -> usize
     ensures { λ r. ⌜ r ≡ wholeOf (rowOf messages kind) ⌝ }
 {
+    let shape = shape_of(kind);
+    shape.whole
+}
+
+// The table of kinds: kind, transaction, account, second, and the amount where there is one.
+fn shape_of(kind: u8) -> Shape
+    ensures { λ r. ⌜ r ≡ shapeOf (rowOf messages kind) ⌝ }
+{
     match kind {
-        1 | 2 | 3 => 15,
-        4 | 5 | 6 => 11,
-        _ => 0,
+        1 => WITH_AMOUNT,
+        2 => WITH_AMOUNT,
+        3 => WITH_AMOUNT,
+        4 => HEADING_ALONE,
+        5 => HEADING_ALONE,
+        6 => HEADING_ALONE,
+        _ => Shape::NONE,
     }
 }
+
+const WITH_AMOUNT: Shape = Shape {
+    widths: [1, 4, 2, 4, 4, 0, 0, 0, 0, 0],
+    whole: 15,
+};
+
+const HEADING_ALONE: Shape = Shape {
+    widths: [1, 4, 2, 4, 0, 0, 0, 0, 0, 0],
+    whole: 11,
+};
 
 // The message of a kind 1 to 6.
 fn message_of(kind: u8, heading: Heading, amount: u32) -> Message
@@ -131,4 +147,23 @@ fn amount_of(message: Message) -> u32
         Message::Commit(_) => 0,
         Message::Abort(_) => 0,
     }
+}
+
+// The row of numbers of a message.
+fn numbers_of(message: Message) -> [u32; layout::FIELDS]
+    ensures { λ r. ⌜ r ≡ padded (numbersOf message) ⌝ }
+{
+    let heading = heading_of(message);
+    [
+        kind_of(message) as u32,
+        heading.transaction,
+        heading.account as u32,
+        heading.second,
+        amount_of(message),
+        0,
+        0,
+        0,
+        0,
+        0,
+    ]
 }

@@ -1,9 +1,12 @@
 -- `message::read_message` meets its contract: each way out is a law of the reader's definition.
 -- Assumes nothing.
 use native.Mathlib.Omega.{arith}
-use mathlib.Core.Path.{sym}
+use mathlib.Core.Path.{_≡_, sym}
+use Rattle.layout.specs.Fields.{rowOf, wholeOf}
+use Rattle.layout.proofs.Shapes.{shape-whole}
+use Rattle.message.specs.Bytes.{messages}
+use Rattle.message.proofs.Reader.{read-empty, read-unknown, read-short, read-last, read-row}
 use borrow.Author.Needs.{needs}
-use Rattle.message.proofs.Reader.{read-empty, read-unknown, read-short, read-account, read-taken}
 use Rattle.message.proofs.read_message.Statement.{statement}
 use Rattle.message.proofs.read_message.Tie as tie
 
@@ -13,71 +16,91 @@ returns c = sym (read-empty (c .before .before .args .bytes .now) (c .if1 .taken
 number1-requires : tie.Need-number1-requires
 number1-requires c κs = search needs
 
-whole-length-requires : tie.Need-whole-length-requires
-whole-length-requires c κs = search needs
+shape-of-requires : tie.Need-shape-of-requires
+shape-of-requires c κs = search needs
 
 returns-2 : tie.Need-returns-2
 returns-2 c =
-    let at-whole-length = c .before in
-    let at-number1 = at-whole-length .before in
+    let at-shape-of = c .before .before in
+    let at-number1 = at-shape-of .before in
     let at-if1 = at-number1 .before in
-    let start = at-if1 .before .before in
-    sym (read-unknown (start .args .bytes .now) (at-number1 .number1 .result) (at-whole-length .whole-length .result) (at-if1 .if1 .left) (at-number1 .number1 .ensures) (at-whole-length .whole-length .ensures)
-    (c .if2 .taken))
+    let bytes = at-if1 .before .before .args .bytes .now in
+    let kind = at-number1 .number1 .result in
+    let shape = at-shape-of .shape-of .result in
+    let whole : shape .whole ≡ wholeOf (rowOf messages kind) = rw (at-shape-of .shape-of .ensures) (shape-whole (rowOf messages kind)) in
+    sym (read-unknown bytes kind (shape .whole) (at-if1 .if1 .left) (at-number1 .number1 .ensures) whole (c .if2 .taken))
 
 returns-3 : tie.Need-returns-3
 returns-3 c =
-    let at-if2 = c .before in
-    let at-whole-length = at-if2 .before in
-    let at-number1 = at-whole-length .before in
+    let at-if2 = c .before .before in
+    let at-shape-of = at-if2 .before .before in
+    let at-number1 = at-shape-of .before in
     let at-if1 = at-number1 .before in
-    let start = at-if1 .before .before in
-    sym (read-short (start .args .bytes .now) (at-number1 .number1 .result) (at-whole-length .whole-length .result) (at-if1 .if1 .left) (at-number1 .number1 .ensures) (at-whole-length .whole-length .ensures)
-    (at-if2 .if2 .left) (c .if3 .taken))
+    let bytes = at-if1 .before .before .args .bytes .now in
+    let kind = at-number1 .number1 .result in
+    let shape = at-shape-of .shape-of .result in
+    let whole : shape .whole ≡ wholeOf (rowOf messages kind) = rw (at-shape-of .shape-of .ensures) (shape-whole (rowOf messages kind)) in
+    sym (read-short bytes kind (shape .whole) (at-if1 .if1 .left) (at-number1 .number1 .ensures) whole (at-if2 .if2 .left) (c .if3 .taken))
 
-number4-requires : tie.Need-number4-requires
-number4-requires c κs = search needs
+read-numbers-requires : tie.Need-read-numbers-requires
+read-numbers-requires c κs = search needs
 
-number2-requires : tie.Need-number2-requires
-number2-requires c κs = search needs
+array-read-if4 : tie.Need-array-read-if4
+array-read-if4 c = search needs
 
-number4-requires-2 : tie.Need-number4-requires-2
-number4-requires-2 c κs = search needs
+cast-if4 : tie.Need-cast-if4
+cast-if4 c = search needs
 
 returns-4 : tie.Need-returns-4
 returns-4 c =
-    let at-number2 = c .before .before .before in
-    let at-if3 = at-number2 .before .before in
-    let at-if2 = at-if3 .before in
-    let at-whole-length = at-if2 .before in
-    let at-number1 = at-whole-length .before in
+    let at-read-numbers = c .before in
+    let at-if3 = at-read-numbers .before .before in
+    let at-if2 = at-if3 .before .before in
+    let at-shape-of = at-if2 .before .before in
+    let at-number1 = at-shape-of .before in
     let at-if1 = at-number1 .before in
-    let start = at-if1 .before .before in
-    sym (read-account (start .args .bytes .now) (at-number1 .number1 .result) (at-whole-length .whole-length .result) (at-if1 .if1 .left) (at-number1 .number1 .ensures) (at-whole-length .whole-length .ensures)
-    (at-if2 .if2 .left) (at-if3 .if3 .left) (omega (arith, at-number2 .number2 .ensures, c .if4 .taken)))
+    let bytes = at-if1 .before .before .args .bytes .now in
+    let kind = at-number1 .number1 .result in
+    let shape = at-shape-of .shape-of .result in
+    let whole : shape .whole ≡ wholeOf (rowOf messages kind) = rw (at-shape-of .shape-of .ensures) (shape-whole (rowOf messages kind)) in
+    let numbers = rw (at-shape-of .shape-of .ensures) at (at-read-numbers .read-numbers .ensures) in
+    let by-row = read-last bytes kind (shape .whole) (at-if1 .if1 .left) (at-number1 .number1 .ensures) whole (at-if2 .if2 .left) in
+    sym (by-row (at-read-numbers .read-numbers .result) numbers (at-if3 .if3 .left) (c .if4 .taken))
 
-number4-requires-3 : tie.Need-number4-requires-3
-number4-requires-3 c κs = search needs
+array-read-message-of : tie.Need-array-read-message-of
+array-read-message-of c = search needs
+
+array-read-t13 : tie.Need-array-read-t13
+array-read-t13 c = search needs
+
+cast-t18 : tie.Need-cast-t18
+cast-t18 c = search needs
+
+array-read-t21 : tie.Need-array-read-t21
+array-read-t21 c = search needs
+
+array-read-message-of-2 : tie.Need-array-read-message-of-2
+array-read-message-of-2 c = search needs
 
 message-of-requires : tie.Need-message-of-requires
 message-of-requires c κs = search needs
 
 returns-5 : tie.Need-returns-5
 returns-5 c =
-    let at-number43 = c .before in
-    let at-if4 = at-number43 .before in
-    let at-number42 = at-if4 .before .before in
-    let at-number2 = at-number42 .before in
-    let at-number4 = at-number2 .before in
-    let at-if3 = at-number4 .before in
-    let at-if2 = at-if3 .before in
-    let at-whole-length = at-if2 .before in
-    let at-number1 = at-whole-length .before in
+    let at-if4 = c .before in
+    let at-read-numbers = at-if4 .before in
+    let at-if3 = at-read-numbers .before .before in
+    let at-if2 = at-if3 .before .before in
+    let at-shape-of = at-if2 .before .before in
+    let at-number1 = at-shape-of .before in
     let at-if1 = at-number1 .before in
-    let start = at-if1 .before .before in
-    rw (c .message-of .ensures, at-number4 .number4 .ensures, at-number2 .number2 .ensures, at-number42 .number42 .ensures, at-number43 .number43 .ensures)
-    (sym (read-taken (start .args .bytes .now) (at-number1 .number1 .result) (at-whole-length .whole-length .result) (at-if1 .if1 .left) (at-number1 .number1 .ensures) (at-whole-length .whole-length .ensures)
-    (at-if2 .if2 .left) (at-if3 .if3 .left) (omega (arith, at-number2 .number2 .ensures, at-if4 .if4 .left))))
+    let bytes = at-if1 .before .before .args .bytes .now in
+    let kind = at-number1 .number1 .result in
+    let shape = at-shape-of .shape-of .result in
+    let whole : shape .whole ≡ wholeOf (rowOf messages kind) = rw (at-shape-of .shape-of .ensures) (shape-whole (rowOf messages kind)) in
+    let numbers = rw (at-shape-of .shape-of .ensures) at (at-read-numbers .read-numbers .ensures) in
+    let by-row = read-row bytes kind (shape .whole) (at-if1 .if1 .left) (at-number1 .number1 .ensures) whole (at-if2 .if2 .left) in
+    rw (c .message-of .ensures) (sym (by-row (at-read-numbers .read-numbers .result) numbers (at-if3 .if3 .left) (at-if4 .if4 .left)))
 
 pub read-message-spec : {M : Type 1} → statement M
 read-message-spec =
@@ -85,13 +108,17 @@ read-message-spec =
     (tie.spec
     returns
     number1-requires
-    whole-length-requires
+    shape-of-requires
     returns-2
     returns-3
-    number4-requires
-    number2-requires
-    number4-requires-2
+    read-numbers-requires
+    array-read-if4
+    cast-if4
     returns-4
-    number4-requires-3
+    array-read-message-of
+    array-read-t13
+    cast-t18
+    array-read-t21
+    array-read-message-of-2
     message-of-requires
     returns-5)

@@ -1,42 +1,51 @@
--- `entry::writer::put_entry` meets its contract: the heading and what follows it are the entry.
+-- `entry::writer::put_entry` meets its contract: the numbers of the entry, stored by the row of its kind, are its bytes.
 -- Assumes nothing.
+use mathlib.Core.Path.{_≡_, _∙_}
+use Rattle.layout.specs.Fields.{rowOf}
+use Rattle.layout.specs.Shapes.{shapeOf}
+use Rattle.layout.proofs.Shapes.{shape-whole}
+use Rattle.entry.specs.Bytes.{entryRows, kindOf, lengthOfTold}
+use Rattle.entry.proofs.Stored.{row-bytes, short-told}
 use borrow.Author.Needs.{needs}
-use Rattle.entry.proofs.Stored.{entry-stored}
 use Rattle.entry.proofs.writer.put_entry.Statement.{statement}
 use Rattle.entry.proofs.writer.put_entry.Tie as tie
 
 told-kind-requires : tie.Need-told-kind-requires
 told-kind-requires c κs = search needs
 
-put-heading-requires : tie.Need-put-heading-requires
-put-heading-requires c κs = search needs
+shape-of-requires : tie.Need-shape-of-requires
+shape-of-requires c κs = search needs
 
-add-put-told : tie.Need-add-put-told
-add-put-told c = search needs
+numbers-of-requires : tie.Need-numbers-of-requires
+numbers-of-requires c κs = search needs
 
-put-told-requires : tie.Need-put-told-requires
-put-told-requires c κs = search needs
+put-numbers-requires : tie.Need-put-numbers-requires
+put-numbers-requires c κs = search needs
 
 same-length : tie.Need-same-length
 same-length c = search needs
 
 returns : tie.Need-returns
+unfolding lengthOfTold
 returns c =
-    let at-put-told = c .before .before in
-    let at-put-heading = at-put-told .before .before .before .before in
-    let at-told-kind = at-put-heading .before in
-    let start = at-told-kind .before .before .before in
-    let a = start .args in
-    entry-stored (a .account) (a .at) (at-told-kind .told-kind .result) (a .entry) (a .buffer .now) (at-put-heading .put-heading .last .0) (at-put-told .put-told .last .0)
-    (at-told-kind .told-kind .ensures) (at-put-heading .put-heading .ensures) (at-put-told .put-told .ensures)
+    let at-put-numbers = c .before .before in
+    let at-numbers-of = at-put-numbers .before in
+    let at-shape-of = at-numbers-of .before .before .before in
+    let at-told-kind = at-shape-of .before in
+    let a = at-told-kind .before .before .args in
+    let found = rowOf entryRows (kindOf (a .entry .told)) in
+    let row : at-shape-of .shape-of .result ≡ shapeOf found = rw (at-told-kind .told-kind .ensures) at (at-shape-of .shape-of .ensures) in
+    let whole : at-shape-of .shape-of .result .whole ≡ lengthOfTold (a .entry .told) = rw row (shape-whole found) in
+    let stored = rw (at-numbers-of .numbers-of .ensures, row, row-bytes (a .account) (a .entry)) at (at-put-numbers .put-numbers .ensures) in
+    (whole, rw whole (short-told (a .entry .told)), stored)
 
 pub put-entry-spec : {M : Type 1} → statement M
 put-entry-spec =
     tie.close
     (tie.spec
     told-kind-requires
-    put-heading-requires
-    add-put-told
-    put-told-requires
+    shape-of-requires
+    numbers-of-requires
+    put-numbers-requires
     same-length
     returns)

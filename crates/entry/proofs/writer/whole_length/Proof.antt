@@ -1,58 +1,89 @@
--- `entry::writer::whole_length` meets its contract. The loop's invariant: the sum so far is the length of the entries passed, at most 20 for each.
+-- `entry::writer::whole_length` meets its contract. The loop's invariant: the sum so far is the length of the entries passed.
 -- The measure is what is left of the count.
 -- Assumes nothing.
-use Prim.Native.Nat.{_+_, _*_, _-_, _≤_, _<_}
+use Prim.Native.Nat.{ℕ, _+_, _*_, _-_, _≤_, min}
 use native.Mathlib.Omega.{arith}
-use mathlib.Core.Path.{refl, ap₂, _≡_}
+use mathlib.Core.Path.{_≡_, refl, ap₂}
+use mathlib.Core.List.{List}
 use borrow.Author.Needs.{needs}
-use lib.ListN.{length, take}
-use Rattle.entry.proofs.Stored.{wholes-more}
+use lib.ListN.{length, take, length-map}
+use Rattle.account.specs.declared.Entry.{Entry}
 use Rattle.entry.specs.Bytes.{wholesOf}
+use Rattle.entry.proofs.Stored.{wholes-more, all-places}
 use Rattle.entry.proofs.writer.whole_length.Statement.{statement}
 use Rattle.entry.proofs.writer.whole_length.Tie as tie
+use Rattle.entry.proofs.writer.whole_length.Reads as reads
+use Rattle.entry.proofs.writer.whole_length.Lts as lts
+use Rattle.entry.proofs.writer.told_length.Reads as told-length-reads
+use Rattle.entry.proofs.writer.used.Reads as used-reads
+
+record Measured (places : List Entry) (count whole i : ℕ) : Type 0 where
+  within : i ≤ count
+  few : whole ≤ 40 * i
+  sum : whole ≡ wholesOf (take i places)
 
 abbrev Inv-loop : tie.InvT-loop
-Inv-loop count places whole₀ i₀ whole i = (i ≤ count) × ((whole ≤ 20 * i) × (whole ≡ wholesOf (take i places)))
+Inv-loop entries count whole₀ i₀ whole i = Measured (entries .at) count whole i
 
 abbrev μ-loop : tie.MeasureT-loop
-μ-loop count places whole₀ i₀ whole i = count - i
+μ-loop entries count whole₀ i₀ whole i = count - i
 
+-- src/writer.rt:52:9
+used-requires : tie.Need-used-requires Inv-loop μ-loop
+used-requires c κs = search needs
+
+-- src/writer.rt:55:5
 loop-holds : tie.Need-loop-holds Inv-loop μ-loop
 unfolding wholesOf
-loop-holds c = (omega arith, (omega arith, refl))
+loop-holds c = record { within = omega arith; few = omega arith; sum = refl }
 
+-- src/writer.rt:56:21
 mul-entry : tie.Need-mul-entry Inv-loop μ-loop
 mul-entry c = omega arith
 
-array-copy-out-entry : tie.Need-array-copy-out-entry Inv-loop μ-loop
-array-copy-out-entry c = omega arith
+-- src/writer.rt:56:21
+element-copy-out-entry : tie.Need-element-copy-out-entry Inv-loop μ-loop
+element-copy-out-entry c = omega arith
 
+-- src/writer.rt:57:18
 told-length-requires : tie.Need-told-length-requires Inv-loop μ-loop
 told-length-requires c κs = search needs
 
+-- src/writer.rt:57:9
 add-whole : tie.Need-add-whole Inv-loop μ-loop
 add-whole c = omega arith
 
+-- src/writer.rt:58:9
 add-i : tie.Need-add-i Inv-loop μ-loop
 add-i c = omega arith
 
+-- src/writer.rt:55:5
 loop-less : tie.Need-loop-less Inv-loop μ-loop
 loop-less c = omega arith
 
+-- src/writer.rt:55:5
 loop-again : tie.Need-loop-again Inv-loop μ-loop
 loop-again c =
     let at-loop = c .before .before .before in
-    let start = at-loop .before in
-    let i = at-loop .loop .i in
-    let places = start .args .t1 in
-    let n : length places ≡ 17 = start .good .0 .1 .0 .1 in
-    let h : i < length places = omega (arith, start .pre) in
-    (omega arith, (omega arith, rw (wholes-more places i h) (ap₂ _+_ (at-loop .loop .inv .1 .1) (c .told-length .ensures .0))))
+    let start = at-loop .before .before in
+    let v = at-loop .loop in
+    let places : length (start .args .t1 .at) ≡ 17 = omega (arith, simp length-map at (start .good)) in
+    record {
+      within = omega arith;
+      few = omega arith;
+      sum = rw (wholes-more (start .args .t1 .at) (v .i) (omega arith)) (ap₂ _+_ (v .inv .sum) (c .told-length .ensures .0));
+    }
 
+-- src/writer.rt:49:1
 returns : tie.Need-returns Inv-loop μ-loop
 returns c =
-    let i : c .before .loop .i ≡ c .before .before .args .count = omega arith in
-    rw (← i) (c .before .loop .inv .1 .1)
+    let v = c .before .loop in
+    let at-used = c .before .before in
+    let start = at-used .before in
+    let entries = start .args .t1 in
+    let places : length (entries .at) ≡ 17 = omega (arith, simp length-map at (start .good)) in
+    let i : v .i ≡ min (entries .count) 17 = omega arith in
+    rw (i, all-places (entries .at) (entries .count) places) at (v .inv .sum)
 
 pub whole-length-spec : {M : Type 1} → statement M
 whole-length-spec =
@@ -60,9 +91,10 @@ whole-length-spec =
     (tie.spec
     Inv-loop
     μ-loop
+    used-requires
     loop-holds
     mul-entry
-    array-copy-out-entry
+    element-copy-out-entry
     told-length-requires
     add-whole
     add-i

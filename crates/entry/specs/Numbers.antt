@@ -1,0 +1,19 @@
+-- What follows the heading of an entry as the code holds it: three numbers, 0 where the entry has no such number (clause 9.1).
+-- Assumes nothing.
+use Prim.Native.Nat.{ℕ}
+use Rattle.account.specs.declared.Event.{Event}
+use Rattle.account.specs.declared.Told.{Told}
+use Rattle.account.specs.declared.Told.the-variants.{Accepted, Rejected, Held, Noted, Applied, Dropped}
+use Rattle.layout.specs.Events.{eventKind, amountOf}
+use Rattle.entry.specs.declared.kinds.Then.{Then}
+
+abbrev pub withEvent : Event → (number : ℕ) → Then
+withEvent e number = record { event = eventKind e; amount = amountOf e; number = number }
+
+abbrev pub thenIn : Told → Then
+thenIn (Accepted e weighed) = withEvent e weighed
+thenIn (Rejected e weighed) = withEvent e weighed
+thenIn (Held e weighed) = withEvent e weighed
+thenIn Noted = record { event = 0; amount = 0; number = 0 }
+thenIn (Applied e balance) = withEvent e balance
+thenIn (Dropped e) = withEvent e 0
