@@ -10,11 +10,11 @@ use lib.Dec.{leb, ltb}
 use lib.ListN.{length, drop, length-append}
 use lib.Seq.{take-at, drop-at}
 use Rattle.rule.specs.Lists.{every}
-use Rattle.account.specs.declared.Event.{Event}
-use Rattle.account.specs.declared.Event.the-variants.{Open, Withdraw, Deposit, Close}
+use Rattle.events.specs.declared.Event.{Event}
+use Rattle.events.specs.declared.Event.the-variants.{Open, Withdraw, Deposit, Close}
 use Rattle.account.specs.declared.Told.{Told}
 use Rattle.account.specs.declared.Told.the-variants.{Accepted, Rejected, Held, Noted, Applied, Dropped}
-use Rattle.layout.specs.Events.{amountOf}
+use Rattle.events.specs.Kinds.{amountOf}
 use Rattle.entry.specs.Text.{decimalIn, decimal, nameOf, eventName, thenFields, spaced, lineOf, writeLineOf}
 use Rattle.entry.specs.Quoted.{quoted}
 use Rattle.entry.specs.Lines.{field, eventText, headingText, LinesPlain, Ended, LinesEnd, LinesFit, LineReadBack}

@@ -10,7 +10,7 @@ use Rattle.account.specs.declared.Entry.{Entry}
 use Rattle.account.specs.declared.Entries.{Entries}
 use Rattle.layout.specs.Number.{numberAt}
 use Rattle.layout.specs.Fields.{Row, rowOf, widthsOf, numbersAt, lastAccount}
-use Rattle.layout.specs.Events.{eventOf}
+use Rattle.events.specs.Kinds.{eventOf}
 use Rattle.layout.specs.Answers.{Wrote, wroteOver, refusedWith}
 use Rattle.entry.specs.declared.EntryReading.{EntryReading}
 use Rattle.entry.specs.declared.EntryReading.the-variants.{Found, Nothing}

@@ -3,8 +3,8 @@ ghost use mathlib.Core.Path.{_≡_};
 ghost use Prim.Native.Nat.{_≤_};
 ghost use Rattle.layout.specs.Fields.{rowOf, wholeOf};
 ghost use Rattle.entry.specs.Bytes.{entryRows, kindOf, lengthOfTold, toldBy};
-use account::Event;
 use account::Told;
+use events::Event;
 
 // The kind of an entry.
 pub(crate) fn told_kind(told: Told) -> u8

@@ -7,6 +7,7 @@ ghost use Rattle.entry.specs.Answers.{eventFits, readOf, numberAfter, en
 use crate::EntryReading;
 use crate::kinds;
 use account::Entry;
+use events::Event;
 
 // The entry that the bytes begin with, by the layout alone; bytes after it are not looked at.
 pub fn read_entry(bytes: &[u8]) -> EntryReading
@@ -53,7 +54,7 @@ fn event_fits(kind: u8, amount: u32) -> bool
 fn entry_at(bytes: &[u8], kind: u8) -> Entry
     ensures { λ r. ⌜ r ≡ entryAt (now (bytes .entry)) kind ⌝ }
 {
-    let event = layout::event_of(layout::number1(bytes, 11), layout::number4(bytes, 12));
+    let event = Event::of(layout::number1(bytes, 11), layout::number4(bytes, 12));
     let number = number_after(bytes, kind);
     Entry {
         transaction: layout::number4(bytes, 1),

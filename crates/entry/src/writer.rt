@@ -6,14 +6,14 @@ ghost use lib.ListN.{take};
 ghost use lib.Seq.{sets};
 ghost use Rattle.account.specs.Steps.{most};
 ghost use Rattle.layout.specs.Fields.{rowOf, thenOf, written};
-ghost use Rattle.layout.specs.Events.{eventKind, amountOf};
+ghost use Rattle.events.specs.Kinds.{eventKind, amountOf};
 ghost use Rattle.entry.specs.Bytes.{entryRows, kindOf, thenNumbers, bytesOfEntry, bytesOfEntries, wholesOf};
 ghost use Rattle.entry.specs.Answers.{writeOf};
 use crate::kinds;
 use account::Entries;
 use account::Entry;
-use account::Event;
 use account::Told;
+use events::Event;
 use layout::Writing;
 
 // Writes the entries of a call of that account, one after the other, to the beginning of a buffer.
@@ -125,6 +125,6 @@ fn put_event(buffer: &mut [u8], at: usize, event: Event)
     requires { ⌜ at ≤ 351 ⌝ }
     ensures { λ _. ⌜ now (buffer .exit) ≡ sets (now (buffer .entry)) at (written (1 ∷ 4 ∷ []) (eventKind event ∷ amountOf event ∷ [])) ⌝ }
 {
-    layout::put1(buffer, at, layout::event_kind(event));
-    layout::put4(buffer, at + 1, layout::event_amount(event));
+    layout::put1(buffer, at, event.kind());
+    layout::put4(buffer, at + 1, event.amount());
 }

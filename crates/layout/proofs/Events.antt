@@ -3,9 +3,9 @@
 use Prim.Native.Nat.{_<_, _^_}
 use mathlib.Core.Path.{_≡_, refl}
 use lib.Dec.{lit<}
-use Rattle.account.specs.declared.Event.{Event}
-use Rattle.account.specs.declared.Event.the-variants.{Open, Withdraw, Deposit, Close}
-use Rattle.layout.specs.Events.{eventKind, amountOf, eventOf}
+use Rattle.events.specs.declared.Event.{Event}
+use Rattle.events.specs.declared.Event.the-variants.{Open, Withdraw, Deposit, Close}
+use Rattle.events.specs.Kinds.{eventKind, amountOf, eventOf}
 
 pub event-is : (e : Event) → eventOf (eventKind e) (amountOf e) ≡ e
 unfolding eventOf

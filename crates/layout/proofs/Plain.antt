@@ -10,10 +10,10 @@ use borrow.Author.Tests.{ne-eqb, leb-false, ltb-true, ltb-false}
 use lib.Dec.{leb, ltb, lit<}
 use lib.ListN.{length, getD, drop, List·getD-append}
 use lib.Seq.{getD-at, getD-append-add, getD-drop}
-use Rattle.account.specs.declared.Event.the-variants.{Close}
+use Rattle.events.specs.declared.Event.the-variants.{Close}
 use Rattle.layout.specs.Number.{bytesOf, numberAt, AreBytes}
 use Rattle.layout.specs.Fields.{written}
-use Rattle.layout.specs.Events.{eventOf}
+use Rattle.events.specs.Kinds.{eventOf}
 use Rattle.layout.specs.Plain.{NumbersPlain, Byte, BytesHighestFirst, HeadingPlain, EventsPlain, LaidOverPlain}
 use Rattle.layout.proofs.Numbers.{length-bytesOf, numberAt-one}
 

@@ -3,8 +3,8 @@
 use Prim.Native.Nat.{ℕ}
 use mathlib.Core.Bool.{cond}
 use lib.Dec.{eqb}
-use Rattle.account.specs.declared.Event.{Event}
-use Rattle.account.specs.declared.Event.the-variants.{Open, Withdraw, Deposit, Close}
+use Rattle.events.specs.declared.Event.{Event}
+use Rattle.events.specs.declared.Event.the-variants.{Open, Withdraw, Deposit, Close}
 
 abbrev pub eventKind : Event → ℕ
 eventKind (Open a) = 1

@@ -7,11 +7,11 @@ use mathlib.Core.Bool.{false, _&&_}
 use mathlib.Core.List.{List, [], _∷_, _++_, map}
 use lib.Dec.{leb}
 use lib.ListN.{length, getD}
-use Rattle.account.specs.declared.Event.{Event}
-use Rattle.account.specs.declared.Event.the-variants.{Open, Withdraw, Deposit, Close}
+use Rattle.events.specs.declared.Event.{Event}
+use Rattle.events.specs.declared.Event.the-variants.{Open, Withdraw, Deposit, Close}
 use Rattle.layout.specs.Number.{bytesOf, numberAt, AreBytes}
 use Rattle.layout.specs.Fields.{written, heading}
-use Rattle.layout.specs.Events.{eventKind, amountOf, eventOf}
+use Rattle.events.specs.Kinds.{eventKind, amountOf, eventOf}
 use Rattle.layout.specs.Answers.{laidOver}
 
 -- the number in 2 bytes, and in 4

@@ -6,8 +6,8 @@ ghost use lib.Seq.{sets};
 ghost use Prim.Native.Nat.{_<_};
 ghost use Rattle.layout.specs.Number.{bytesOf, numberAt};
 ghost use Rattle.layout.specs.Fields.{written, heading};
-ghost use Rattle.layout.specs.Events.{eventKind, amountOf, eventOf};
-use account::Event;
+ghost use Rattle.events.specs.Kinds.{eventKind, amountOf, eventOf};
+use events::Event;
 
 // The accounts are numbered from 0 to this one.
 pub const LAST_ACCOUNT: u16 = 15;

@@ -4,9 +4,9 @@ use Prim.Native.Nat.{_<_, _^_}
 use mathlib.Core.Path.{_≡_, refl}
 use lib.Dec.{lit<}
 use lib.ListN.{length, getD}
-use Rattle.account.specs.declared.Event.the-variants.{Open, Withdraw, Deposit, Close}
+use Rattle.events.specs.declared.Event.the-variants.{Open, Withdraw, Deposit, Close}
 use Rattle.layout.specs.Fields.{rowOf, thenOf, widthsOf, total}
-use Rattle.layout.specs.Events.{eventOf}
+use Rattle.events.specs.Kinds.{eventOf}
 use Rattle.layout.specs.Inverse.{Fit, none, one}
 use Rattle.message.specs.declared.Message.{Message}
 use Rattle.message.specs.declared.Message.the-variants.{Request, Commit, Abort}

@@ -8,7 +8,7 @@ use mathlib.Core.List.{List, [], _∷_, _++_}
 use borrow.Author.Tests.{lt-ltb, le-ltb}
 use lib.ListN.{length}
 use lib.Seq.{sets}
-use Rattle.account.specs.declared.Event.the-variants.{Open, Withdraw, Deposit, Close}
+use Rattle.events.specs.declared.Event.the-variants.{Open, Withdraw, Deposit, Close}
 use Rattle.layout.specs.declared.Writing.the-variants as Writing′
 use Rattle.layout.specs.Number.{bytesOf}
 use Rattle.layout.specs.Fields.{rowOf, widthsOf, written, heading, lastAccount}

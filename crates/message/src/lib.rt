@@ -3,7 +3,7 @@ ghost use mathlib.Core.Path.{_≡_};
 ghost use Rattle.layout.specs.Fields.{rowOf, wholeOf};
 ghost use Rattle.message.specs.Bytes.{messages, kindOf, headingOf, amountIn, messageBy};
 ghost use Rattle.message.specs.Answers.{readOf, writeOf};
-use account::Event;
+use events::Event;
 use layout::Writing;
 
 // What every message brings.
@@ -96,7 +96,7 @@ fn message_of(kind: u8, heading: Heading, amount: u32) -> Message
     match kind {
         5 => Message::Commit(heading),
         6 => Message::Abort(heading),
-        _ => Message::Request(heading, layout::event_of(kind, amount)),
+        _ => Message::Request(heading, Event::of(kind, amount)),
     }
 }
 
@@ -105,7 +105,7 @@ fn kind_of(message: Message) -> u8
     ensures { λ r. ⌜ r ≡ kindOf message ⌝ }
 {
     match message {
-        Message::Request(_, event) => layout::event_kind(event),
+        Message::Request(_, event) => event.kind(),
         Message::Commit(_) => 5,
         Message::Abort(_) => 6,
     }
@@ -127,7 +127,7 @@ fn amount_of(message: Message) -> u32
     ensures { λ r. ⌜ r ≡ amountIn message ⌝ }
 {
     match message {
-        Message::Request(_, event) => layout::event_amount(event),
+        Message::Request(_, event) => event.amount(),
         Message::Commit(_) => 0,
         Message::Abort(_) => 0,
     }

@@ -5,7 +5,7 @@ use Rattle.account.specs.Panel.{panel}
 use Rattle.message.proofs.Inverse.{reads-written, writes-read}
 use Rattle.register.specs.Demands.{Demand2}
 use Rattle.rule.proofs.Exact.{numbered, exact, decided}
-use Rattle.account.proofs.Panel.{effect-table}
+use Rattle.events.proofs.Guards.{effect-table}
 use Rattle.register.proofs.Seconds.{seconds-never-matter}
 use Rattle.register.proofs.AsTheRule.{as-the-rule}
 use Rattle.register.proofs.Own.{each-own-entry}

@@ -1,10 +1,10 @@
 -- Numbers that fit their bytes: of every event and commit that a message brings, and so of every entry (document 01, "Bytes").
 -- Assumes nothing.
 use Prim.Native.Nat.{ℕ, _<_, _≤_, _^_}
-use Rattle.account.specs.declared.Event.{Event}
-use Rattle.account.specs.declared.State.{State}
-use Rattle.account.specs.Panel.{limit}
-use Rattle.layout.specs.Events.{amountOf}
+use Rattle.events.specs.declared.Event.{Event}
+use Rattle.events.specs.declared.State.{State}
+use Rattle.events.specs.Events.{limit}
+use Rattle.events.specs.Kinds.{amountOf}
 
 -- "transaction 4 bytes, account 2, second 4, amount 4"
 abbrev pub EventFits : ℕ → ℕ → Event → Type 0

@@ -1,7 +1,7 @@
 -- `layout::event_of` meets its contract: the arm that was taken says which kind it is.
 -- Assumes nothing.
 use borrow.Author.Tests.{ne-eqb}
-use Rattle.layout.specs.Events.{eventOf}
+use Rattle.events.specs.Kinds.{eventOf}
 use Rattle.layout.proofs.event_of.Statement.{statement}
 use Rattle.layout.proofs.event_of.Tie as tie
 

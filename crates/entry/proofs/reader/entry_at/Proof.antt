@@ -10,8 +10,8 @@ number1-requires c κs = search needs
 number4-requires : tie.Need-number4-requires
 number4-requires c κs = search needs
 
-event-of-requires : tie.Need-event-of-requires
-event-of-requires c κs = search needs
+of-requires : tie.Need-of-requires
+of-requires c κs = search needs
 
 number-after-requires : tie.Need-number-after-requires
 number-after-requires c κs = search needs
@@ -30,10 +30,10 @@ returns c =
     let at-number43 = c .before in
     let at-number42 = at-number43 .before in
     let at-number-after = at-number42 .before in
-    let at-event-of = at-number-after .before in
-    let at-number4 = at-event-of .before in
+    let at-of = at-number-after .before in
+    let at-number4 = at-of .before in
     let at-number1 = at-number4 .before in
-    rw (c .told-of .ensures, at-number43 .number43 .ensures, at-number42 .number42 .ensures, at-number-after .number-after .ensures, at-event-of .event-of .ensures, at-number4 .number4 .ensures, at-number1 .number1 .ensures)
+    rw (c .told-of .ensures, at-number43 .number43 .ensures, at-number42 .number42 .ensures, at-number-after .number-after .ensures, at-of .of .ensures, at-number4 .number4 .ensures, at-number1 .number1 .ensures)
 
 pub entry-at-spec : {M : Type 1} → statement M
 entry-at-spec =
@@ -41,7 +41,7 @@ entry-at-spec =
     (tie.spec
     number1-requires
     number4-requires
-    event-of-requires
+    of-requires
     number-after-requires
     number4-requires-2
     number4-requires-3

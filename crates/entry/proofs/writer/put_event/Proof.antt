@@ -3,13 +3,13 @@
 use mathlib.Core.Path.{refl}
 use mathlib.Core.List.{[], _∷_}
 use borrow.Author.Needs.{needs}
-use Rattle.layout.specs.Events.{eventKind, amountOf}
+use Rattle.events.specs.Kinds.{eventKind, amountOf}
 use Rattle.layout.proofs.Fields.{sets-field, sets-one}
 use Rattle.entry.proofs.writer.put_event.Statement.{statement}
 use Rattle.entry.proofs.writer.put_event.Tie as tie
 
-event-kind-requires : tie.Need-event-kind-requires
-event-kind-requires c κs = search needs
+kind-requires : tie.Need-kind-requires
+kind-requires c κs = search needs
 
 put1-requires : tie.Need-put1-requires
 put1-requires c κs = search needs
@@ -17,8 +17,8 @@ put1-requires c κs = search needs
 add-put4 : tie.Need-add-put4
 add-put4 c = search needs
 
-event-amount-requires : tie.Need-event-amount-requires
-event-amount-requires c κs = search needs
+amount-requires : tie.Need-amount-requires
+amount-requires c κs = search needs
 
 put4-requires : tie.Need-put4-requires
 put4-requires c κs = search needs
@@ -29,23 +29,23 @@ same-length c = search needs
 returns : tie.Need-returns
 returns c =
     let at-put4 = c .before .before in
-    let at-event-amount = at-put4 .before in
-    let at-put1 = at-event-amount .before .before .before .before in
-    let at-event-kind = at-put1 .before in
-    let start = at-event-kind .before .before .before in
+    let at-amount = at-put4 .before in
+    let at-put1 = at-amount .before .before .before .before in
+    let at-kind = at-put1 .before in
+    let start = at-kind .before .before .before in
     let a = start .args in
     sets-one (1 ∷ []) (eventKind (a .event) ∷ []) 4 (amountOf (a .event)) (a .at) 1 (a .buffer .now) (at-put1 .put1 .last .0) (at-put4 .put4 .last .0) refl refl
-    (sets-field 1 (eventKind (a .event)) (a .at) (a .buffer .now) (at-put1 .put1 .last .0) (rw (at-event-kind .event-kind .ensures) at (at-put1 .put1 .ensures)))
-    (rw (at-event-amount .event-amount .ensures) at (at-put4 .put4 .ensures))
+    (sets-field 1 (eventKind (a .event)) (a .at) (a .buffer .now) (at-put1 .put1 .last .0) (rw (at-kind .kind .ensures) at (at-put1 .put1 .ensures)))
+    (rw (at-amount .amount .ensures) at (at-put4 .put4 .ensures))
 
 pub put-event-spec : {M : Type 1} → statement M
 put-event-spec =
     tie.close
     (tie.spec
-    event-kind-requires
+    kind-requires
     put1-requires
     add-put4
-    event-amount-requires
+    amount-requires
     put4-requires
     same-length
     returns)

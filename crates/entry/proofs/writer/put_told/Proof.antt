@@ -4,7 +4,7 @@ use mathlib.Core.Path.{refl}
 use mathlib.Core.List.{[], _∷_}
 use borrow.Author.Needs.{needs}
 use Rattle.layout.specs.Fields.{rowOf, written}
-use Rattle.layout.specs.Events.{eventKind, amountOf}
+use Rattle.events.specs.Kinds.{eventKind, amountOf}
 use Rattle.layout.proofs.Fields.{sets-one}
 use Rattle.entry.specs.Bytes.{entryRows}
 use Rattle.entry.proofs.writer.put_told.Statement.{statement}

@@ -3,7 +3,7 @@
 use mathlib.Core.Path.{refl}
 use mathlib.Core.List.{[], _∷_}
 use borrow.Author.Needs.{needs}
-use Rattle.layout.specs.Events.{eventKind, amountOf}
+use Rattle.events.specs.Kinds.{eventKind, amountOf}
 use Rattle.layout.proofs.Numbers.{bytesOf-low}
 use Rattle.layout.proofs.Fields.{sets-one}
 use Rattle.entry.proofs.writer.put_vote.Statement.{statement}
