@@ -3,6 +3,5 @@ pub mod Stores
 pub mod Numbers
 pub mod Fields
 pub mod Tables
-pub mod Events
 pub mod Answers
 pub mod Plain

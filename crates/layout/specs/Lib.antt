@@ -1,6 +1,5 @@
 pub mod Number
 pub mod Fields
-pub mod Events
 pub mod Answers
 pub mod Inverse
 pub mod Plain

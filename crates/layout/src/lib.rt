@@ -1,4 +1,4 @@
-// What messages and entries share of their bytes: numbers, highest byte first, the heading, an event's kind and amount.
+// What messages and entries share of their bytes: numbers, highest byte first, and the heading.
 // Every function takes any buffer and any place: a byte past the end is not stored, and counts as 0 when it is read.
 ghost use mathlib.Core.Path.{_≡_};
 ghost use mathlib.Core.List.{[], _∷_};
@@ -6,8 +6,6 @@ ghost use lib.Seq.{sets};
 ghost use Prim.Native.Nat.{_<_};
 ghost use Rattle.layout.specs.Number.{bytesOf, numberAt};
 ghost use Rattle.layout.specs.Fields.{written, heading};
-ghost use Rattle.events.specs.Kinds.{eventKind, amountOf, eventOf};
-use events::Event;
 
 // The accounts are numbered from 0 to this one.
 pub const LAST_ACCOUNT: u16 = 15;
@@ -92,42 +90,6 @@ pub fn number4(bytes: &[u8], at: usize) -> u32
         wide4(number2(bytes, at)) * 65536 + wide4(number2(bytes, at + 2))
     } else {
         0
-    }
-}
-
-// The kind of an event.
-pub fn event_kind(event: Event) -> u8
-    ensures { λ r. ⌜ r ≡ eventKind event ⌝ }
-{
-    match event {
-        Event::Open(_) => 1,
-        Event::Withdraw(_) => 2,
-        Event::Deposit(_) => 3,
-        Event::Close => 4,
-    }
-}
-
-// The amount of an event.
-pub fn event_amount(event: Event) -> u32
-    ensures { λ r. ⌜ r ≡ amountOf event ⌝ }
-{
-    match event {
-        Event::Open(amount) => amount,
-        Event::Withdraw(amount) => amount,
-        Event::Deposit(amount) => amount,
-        Event::Close => 0,
-    }
-}
-
-// The event of a kind and an amount.
-pub fn event_of(kind: u8, amount: u32) -> Event
-    ensures { λ r. ⌜ r ≡ eventOf kind amount ⌝ }
-{
-    match kind {
-        1 => Event::Open(amount),
-        2 => Event::Withdraw(amount),
-        3 => Event::Deposit(amount),
-        _ => Event::Close,
     }
 }
 
