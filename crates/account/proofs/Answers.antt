@@ -5,7 +5,7 @@ use mathlib.Core.Path.{_≡_, refl, ap, ap₂}
 use native.Mathlib.Omega.{arith}
 use Rattle.account.specs.declared.Answer.the-variants as Answer′
 use Rattle.account.specs.declared.Outlook.the-variants as Outlook′
-use Rattle.account.specs.declared.State.{State}
+use Rattle.events.specs.declared.State.{State}
 use Rattle.account.specs.Steps.{Told′}
 use Rattle.account.specs.Answers.{AnswersApart, OutlooksApart}
 

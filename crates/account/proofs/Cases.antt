@@ -5,7 +5,7 @@ use Rattle.rule.specs.Outcome.{outcomes}
 use Rattle.rule.specs.Weigh.{weigh, decide}
 use Rattle.rule.specs.Step.{settle, asked, committing, aborting}
 use Rattle.rule.specs.Call.{call}
-use Rattle.account.specs.Panel.{effectOf}
+use Rattle.events.specs.Events.{effectOf}
 use Rattle.account.specs.Cases.{table, CasesHold}
 
 pub cases : CasesHold

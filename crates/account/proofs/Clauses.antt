@@ -1,12 +1,11 @@
 -- The clauses of order, a place at a time: each goes on past a place that keeps it and ends at one that does not.
 -- Assumes nothing.
-use Prim.Native.Nat.{ℕ, _+_, _<_, _≤_}
+use Prim.Native.Nat.{ℕ, _≤_}
 use mathlib.Core.Path.{_≡_, refl, sym, _∙_, ap}
 use mathlib.Core.Bool.{Bool, true, false, cond, _&&_, _||_, not, false≢true}
 use mathlib.Core.List.{List, [], _∷_, _++_}
-use native.Mathlib.Omega.{arith}
-use lib.Dec.{leb, eqb}
-use lib.ListN.{length, getD}
+use lib.Dec.{leb}
+use lib.ListN.{length}
 use borrow.Author.Tests.{le-leb, leb-true}
 use Rattle.rule.specs.Lists.{every, some-of}
 use Rattle.rule.specs.Rule as rule
@@ -15,21 +14,21 @@ use Rattle.rule.specs.Weigh.{weigh, decide}
 use Rattle.rule.specs.Step.{named}
 use Rattle.rule.specs.Order as rule-order
 use Rattle.rule.proofs.Lists.{some-append}
-use Rattle.account.specs.declared.Event.{Event}
+use Rattle.events.specs.declared.Event.{Event}
 use Rattle.account.specs.declared.Decision.{Decision}
 use Rattle.account.specs.declared.Decision.the-variants.{Undecided, Committed}
-use Rattle.account.specs.declared.State.{State}
+use Rattle.events.specs.declared.State.{State}
 use Rattle.account.specs.declared.Slot.{Slot}
 use Rattle.account.specs.declared.Account.{Account}
 use Rattle.account.specs.declared.weighing.Verdict.{Verdict}
 use Rattle.account.specs.declared.weighing.Verdict.the-variants.{Accept, Reject, Hold}
 use Rattle.account.specs.declared.weighing.Weighing.{Weighing}
-use Rattle.account.specs.Panel.{limit, isOpened, guardOf, stateFits, panel}
-use Rattle.account.specs.Places.{RuleSlot, slotOf, decisionOf, used}
+use Rattle.events.specs.Events.{guardOf, stateFits}
+use Rattle.account.specs.Panel.{panel}
+use Rattle.account.specs.Places.{RuleSlot, slotOf, decisionOf}
 use Rattle.account.specs.Order.{isUndecided, orderOf}
 use Rattle.account.specs.Weighing.{verdictOf, weighingOf}
 use Rattle.account.specs.Clauses.{isAccept, isHold, apartBeside, listed}
-use Rattle.account.proofs.Slices.{usedFrom, used-next, used-more}
 
 module _ {A : Type 0} (p : A → Bool) (x : A) (xs l : List A) (next : l ≡ x ∷ xs) where
   pub every-next : p x ≡ true → every p xs ≡ every p l
@@ -43,14 +42,6 @@ module _ {A : Type 0} (p : A → Bool) (x : A) (xs l : List A) (next : l ≡ x �
 
   pub some-stop : p x ≡ true → true ≡ some-of p l
   some-stop h = rw (next, h)
-
--- no balance unless the account is opened: it is opened, or its balance is 0
-pub fits-same : (s : State) → (leb (s .balance) limit && (isOpened (s .life) || eqb (s .balance) 0)) ≡ stateFits s
-fits-same s = ap (λ (b : Bool). leb (s .balance) limit && b) (or-cond (isOpened (s .life)) (eqb (s .balance) 0))
-  where
-    or-cond : (a b : Bool) → (a || b) ≡ cond a true b
-    or-cond true b = refl
-    or-cond false b = refl
 
 -- a test of the rule's slot is one of the place's own fields
 no-decision : (d : Decision) (t g : ℕ) (e : Event) → rule-order.withoutDecision (rule.slot t g e (decisionOf d)) ≡ isUndecided d
@@ -129,24 +120,6 @@ module _ (w : Weighing) (e : Event) (s : State) (xs : List RuleSlot) (decided : 
 
   pub stays : isHold (w .verdict) ≡ rule-order.staysHeld (decide panel e s xs .verdict)
   stays = hold-same (w .verdict) ∙ ap (λ v. rule-order.staysHeld (v .verdict)) decided
-
-module _ (s : State) (n : ℕ) (places : List Slot) (at : ℕ) (d : Slot) (more : at < n) (fits : n ≤ length places) where
-  abbrev x : Slot
-  x = getD places at d
-
-  abbrev before : List RuleSlot
-  before = used places at
-
-  step : rule-order.guarded panel s before (usedFrom at n places)
-      ≡ (every (guardOf (x .event)) (outcomes panel before s) && rule-order.guarded panel s (used places (at + 1)) (usedFrom (at + 1) n places))
-  step = rw (used-next n places at d more fits, used-more places at d (omega arith))
-
-  pub guarded-next : every (guardOf (x .event)) (outcomes panel before s) ≡ true
-      → rule-order.guarded panel s (used places (at + 1)) (usedFrom (at + 1) n places) ≡ rule-order.guarded panel s before (usedFrom at n places)
-  guarded-next h = rw (step, h)
-
-  pub guarded-stop : every (guardOf (x .event)) (outcomes panel before s) ≡ false → false ≡ rule-order.guarded panel s before (usedFrom at n places)
-  guarded-stop h = rw (step, h)
 
 -- with nothing in progress and nothing held the clauses ask for the state alone
 pub order-idle : (s : State) → stateFits s ≡ rule-order.order panel (listed s [] [])

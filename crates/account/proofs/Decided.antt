@@ -1,4 +1,4 @@
--- The decision by the ends of the outcomes is the rule's, where each event finds its guard; with no free place it is to hold.
+-- The decision by what is known of the outcomes is the rule's, where each event in progress finds its guard; with no free place it is to hold.
 -- Assumes nothing.
 use Prim.Native.Nat.{ℕ, _≤_, _<_}
 use mathlib.Core.Path.{_≡_, refl, _∙_}
@@ -7,15 +7,19 @@ use mathlib.Core.List.{List, []}
 use lib.ListN.{length}
 use borrow.Author.Tests.{le-leb, lt-leb}
 use Rattle.rule.specs.Rule as rule
+use Rattle.rule.specs.Outcome.{outcomes}
 use Rattle.rule.specs.Weigh.{weigh, decide}
-use Rattle.account.specs.declared.Event.{Event}
-use Rattle.account.specs.declared.State.{State}
+use Rattle.events.specs.declared.Event.{Event}
+use Rattle.events.specs.declared.State.{State}
 use Rattle.account.specs.declared.Slot.{Slot}
 use Rattle.account.specs.declared.weighing.Verdict.the-variants.{Hold}
-use Rattle.account.specs.declared.weighing.Spread.{Spread}
+use Rattle.account.specs.declared.weighing.Outcomes.{Outcomes}
+use Rattle.events.specs.Range.{rangeOf, everyIn, someIn}
+use Rattle.events.proofs.Answers.{outcomes-every, outcomes-some}
+use Rattle.account.specs.Panel.{room, bench, panel}
 use Rattle.account.specs.Places.{used}
 use Rattle.account.specs.Weighing.{verdictOf, verdictBy}
-use Rattle.account.specs.Ends.{everyEnd, someEnd, Answering, Spreads, Decides}
+use Rattle.account.specs.Known.{Knows, Decides}
 use Rattle.account.proofs.Slices.{count-used}
 
 by-tests : (a b : Bool) → verdictOf (verdictBy a b) ≡ cond a rule.accept (cond b rule.hold rule.reject)
@@ -32,14 +36,14 @@ module _ (e : Event) (s : State) (n : ℕ) (places : List Slot) (fits : n ≤ le
   unfolding decide
   decided-full h = record { free = λ v. absurd (false≢true v); decided = λ g. rw (count, le-leb 8 n h) }
 
-  -- else the ends decide
-  pub decided-ends : n < 8 → (r : Spread) → Spreads s (used places n) r
-      → Decides [] e s (used places n) n (record { verdict = verdictBy (everyEnd e (r .ends)) (someEnd e (r .ends)); weighed = r .ends .outcomes })
+  -- else what is known of the outcomes decides
+  pub decided-known : n < 8 → (o : Outcomes) → Knows s (used places n) o
+      → Decides [] e s (used places n) n (record { verdict = verdictBy (everyIn e (o .range)) (someIn e (o .range)); weighed = o .number })
   unfolding decide weigh
-  decided-ends h r spreads =
+  decided-known h o k =
       record {
         free = λ v. h;
         decided = λ g.
-            let a : Answering s (used places n) (r .ends) = spreads .answers (spreads .guards ∙ g) in
-            rw (count, lt-leb 8 n h, by-tests (everyEnd e (r .ends)) (someEnd e (r .ends)), a .all e, a .any e, a .count);
+            let range : o .range ≡ rangeOf (outcomes panel (used places n) s) = k .range (k .guards ∙ g) in
+            rw (count, lt-leb 8 n h, by-tests (everyIn e (o .range)) (someIn e (o .range)), range, outcomes-every room bench s (used places n) e, outcomes-some room bench s (used places n) e, k .number);
       }

@@ -14,8 +14,8 @@ use Rattle.rule.specs.Order.{guarded, oldestUndecided}
 use Rattle.rule.proofs.Ways.{every-way}
 use Rattle.rule.proofs.Safe.{Safe, safe-mark, safe-without, safe-accept, safe-guarded, guarded-safe}
 use Rattle.rule.proofs.Order.{order-clauses}
-use Rattle.account.specs.declared.Event.{Event}
-use Rattle.account.specs.declared.State.{State}
+use Rattle.events.specs.declared.Event.{Event}
+use Rattle.events.specs.declared.State.{State}
 use Rattle.account.specs.declared.Decision.{Decision}
 use Rattle.account.specs.declared.Decision.the-variants.{Undecided, Committed}
 use Rattle.account.specs.declared.Slot.{Slot}
@@ -24,14 +24,15 @@ use Rattle.account.specs.declared.places.Row.{Row}
 use Rattle.account.specs.declared.weighing.Verdict.{Verdict}
 use Rattle.account.specs.declared.weighing.Verdict.the-variants.{Accept, Reject, Hold}
 use Rattle.account.specs.declared.weighing.Weighing.{Weighing}
-use Rattle.account.specs.Panel.{guardOf, effectOf, panel}
+use Rattle.events.specs.Events.{guardOf, effectOf}
+use Rattle.account.specs.Panel.{panel}
 use Rattle.account.specs.Places.{RuleSlot, decisionOf, slotOf, listsOf}
 use Rattle.account.specs.Order.{orderOf}
 use Rattle.account.specs.Weighing.{verdictOf, weighingOf}
 use Rattle.account.specs.Clauses.{isAccept}
 use Rattle.account.specs.Rows.{listOf, rowOf}
 use Rattle.account.specs.Taken.{joinedBy}
-use Rattle.account.specs.Ends.{Decides}
+use Rattle.account.specs.Known.{Decides}
 use Rattle.account.proofs.Rows.{row-list}
 use Rattle.account.proofs.Clauses.{accepted-every}
 use Rattle.account.proofs.Ordered.{order-rule}

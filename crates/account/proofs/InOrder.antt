@@ -14,7 +14,7 @@ use Rattle.rule.specs.Rule as rule
 use Rattle.rule.specs.Order as rule-order
 use Rattle.rule.proofs.Lists.{and-left, and-right, map-append, every-parts, parts-every}
 use Rattle.rule.proofs.InOrder.{in-order-exactly}
-use Rattle.account.specs.declared.Event.{Event}
+use Rattle.events.specs.declared.Event.{Event}
 use Rattle.account.specs.declared.Decision.{Decision}
 use Rattle.account.specs.declared.Decision.the-variants.{Undecided, Committed}
 use Rattle.account.specs.declared.Slot.{Slot}
@@ -65,7 +65,7 @@ module _ (a : Account) where
       let h4 = and-left (c1 && c2 && c3 && c4) (rule-order.order panel (listsOf a)) h in
       let h3 = and-left (c1 && c2 && c3) c4 h4 in
       let k = in-order-exactly panel (listsOf a) .0 (order-rule a h) in
-      let fits = table-holds (a .state) 0 .fields .fits .0 (k .state) in
+      let fits = table-holds (a .state) 0 .rows .fields .fits .0 (k .state) in
       record {
         progressing = order-counts a h .0;
         holding = order-counts a h .1;
@@ -99,7 +99,7 @@ module _ (a : Account) where
       (record {
         few = few (a .progressing) (a .progress) (h .progressing);
         fewHeld = few (a .holding) (a .held) (h .holding);
-        state = table-holds (a .state) 0 .fields .fits .1 (h .balance, h .empty);
+        state = table-holds (a .state) 0 .rows .fields .fits .1 (h .balance, h .empty);
         differ =
             λ before between behind t t′ g g′ e e′ d d′ q.
             h .differ (map placeOf before) (map placeOf between) (map placeOf behind) (placeOf (rule.slot t g e d)) (placeOf (rule.slot t′ g′ e′ d′))

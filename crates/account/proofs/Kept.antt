@@ -13,7 +13,7 @@ use Rattle.rule.specs.Call as rule-call
 use Rattle.rule.specs.Order as rule-order
 use Rattle.rule.proofs.Lists.{and-left, and-right}
 use Rattle.rule.proofs.Order.{order-clauses}
-use Rattle.account.specs.declared.Event.{Event}
+use Rattle.events.specs.declared.Event.{Event}
 use Rattle.account.specs.declared.Account.{Account}
 use Rattle.account.specs.Panel.{room, bench, panel}
 use Rattle.account.specs.Places.{RuleSlot, RuleAccount, placeOf, blank, padded, listsOf, accountOf}

@@ -1,10 +1,8 @@
 pub mod Panel
 pub mod Cases
 pub mod OrderCases
-pub mod Guards
 pub mod Slices
-pub mod Ends
-pub mod Span
+pub mod Known
 pub mod Decided
 pub mod Clauses
 pub mod Walks

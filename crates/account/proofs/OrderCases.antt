@@ -4,7 +4,7 @@ use mathlib.Core.Path.{refl}
 use Rattle.rule.specs.Outcome.{outcomes}
 use Rattle.rule.specs.Weigh.{weigh, decide}
 use Rattle.rule.specs.Order.{order}
-use Rattle.account.specs.Panel.{effectOf}
+use Rattle.events.specs.Events.{effectOf}
 use Rattle.account.specs.Places.{listsOf}
 use Rattle.account.specs.Order.{orderOf}
 use Rattle.account.specs.OrderCases.{table, OrderCasesHold}

@@ -2,7 +2,7 @@
 -- Assumes nothing.
 use Prim.Native.Nat.{ℕ, _-_, _≤_}
 use mathlib.Core.Path.{_≡_, refl, sym, ap, ap₂, _∙_}
-use mathlib.Core.Bool.{true, false, false≢true, _&&_}
+use mathlib.Core.Bool.{true, false≢true, _&&_}
 use mathlib.Core.List.{List, [], _∷_, _++_}
 use native.Mathlib.Omega.{arith}
 use lib.Dec.{leb, eqb}
@@ -12,25 +12,19 @@ use Rattle.rule.specs.Lists.{every}
 use Rattle.rule.proofs.Lists.{and-left, and-right}
 use Rattle.rule.proofs.Order.{order-clauses}
 use Rattle.rule.specs.Order as rule
-use Rattle.account.specs.declared.Event.{Event}
-use Rattle.account.specs.declared.Event.the-variants.{Open, Withdraw, Deposit, Close}
 use Rattle.account.specs.declared.Decision.{Decision}
 use Rattle.account.specs.declared.Decision.the-variants.{Undecided, Committed}
 use Rattle.account.specs.declared.Slot.{Slot}
 use Rattle.account.specs.declared.Account.{Account}
 use Rattle.account.specs.Panel.{panel, room, bench}
 use Rattle.account.specs.Places.{blank, used, padded, listsOf, accountOf}
-use Rattle.account.specs.Order.{isUndecided, isOpenZero, isBlank, orderOf}
+use Rattle.account.specs.Order.{isUndecided, isBlank, orderOf}
+use Rattle.events.specs.Events.{isBlankEvent}
+use Rattle.events.proofs.Table.{blank-is-open-zero}
 use Rattle.account.proofs.Padded.{places-slots}
 use Rattle.account.proofs.Slices.{count-used}
 
 -- a place that passes for the blank is the blank
-open-zero : (e : Event) → isOpenZero e ≡ true → e ≡ Open 0
-open-zero (Open a) h = ap Open (eqb-true a 0 h)
-open-zero (Withdraw a) h = absurd (false≢true h)
-open-zero (Deposit a) h = absurd (false≢true h)
-open-zero Close h = absurd (false≢true h)
-
 no-decision : (d : Decision) → isUndecided d ≡ true → d ≡ Undecided
 no-decision Undecided h = refl
 no-decision Committed h = absurd (false≢true h)
@@ -39,7 +33,7 @@ pub blank-place : (x : Slot) → isBlank x ≡ true → x ≡ blank
 blank-place x h =
     let t = eqb (x .transaction) 0 in
     let g = eqb (x .second) 0 in
-    let e = isOpenZero (x .event) in
+    let e = isBlankEvent (x .event) in
     let d = isUndecided (x .decision) in
     let three = and-left (t && g && e) d h in
     let two = and-left (t && g) e three in
@@ -47,7 +41,7 @@ blank-place x h =
     record {
       transaction = eqb-true (x .transaction) 0 (and-left t g two) i;
       second = eqb-true (x .second) 0 (and-right t g two) i;
-      event = open-zero (x .event) (and-right (t && g) e three) i;
+      event = blank-is-open-zero (x .event) .0 (and-right (t && g) e three) i;
       decision = no-decision (x .decision) (and-right (t && g && e) d h) i;
     }
 

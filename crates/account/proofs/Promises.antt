@@ -19,7 +19,7 @@ use Rattle.rule.specs.Call as rule-call
 use Rattle.rule.specs.Exact.{chosenState}
 use Rattle.rule.proofs.Lists.{some-map}
 use Rattle.rule.proofs.Exact.{applied-ones}
-use Rattle.account.specs.declared.Event.{Event}
+use Rattle.events.specs.declared.Event.{Event}
 use Rattle.account.specs.declared.Decision.{Decision}
 use Rattle.account.specs.declared.Decision.the-variants.{Undecided, Committed}
 use Rattle.account.specs.declared.Slot.{Slot}

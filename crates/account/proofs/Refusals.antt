@@ -12,7 +12,7 @@ use Rattle.rule.specs.Rule as rule
 use Rattle.rule.specs.Step.{named, mark, without, dropping, after, settle, asked, committing, aborting, step}
 use Rattle.rule.specs.Call.{namedCommitted, refusal, call}
 use Rattle.rule.specs.Order.{guarded}
-use Rattle.account.specs.declared.Event.{Event}
+use Rattle.events.specs.declared.Event.{Event}
 use Rattle.account.specs.declared.Account.{Account}
 use Rattle.account.specs.declared.places.Row.{Row}
 use Rattle.account.specs.declared.steps.Sought.{Sought}

@@ -9,7 +9,7 @@ use native.Mathlib.Omega.{arith}
 use Rattle.rule.specs.Rule as rule
 use Rattle.rule.specs.Step as rule-step
 use Rattle.rule.specs.Call as rule-call
-use Rattle.account.specs.declared.Event.{Event}
+use Rattle.events.specs.declared.Event.{Event}
 use Rattle.account.specs.declared.Account.{Account}
 use Rattle.account.specs.declared.Answer.the-variants as Answer′
 use Rattle.account.specs.declared.Called.{Called}

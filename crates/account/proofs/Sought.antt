@@ -13,7 +13,7 @@ use Rattle.rule.specs.Call.{namedCommitted}
 use Rattle.rule.specs.Order.{apart}
 use Rattle.rule.proofs.Lists.{and-left, and-right, or-left, or-right, or-neither, keep-append, keep-none}
 use Rattle.rule.proofs.Apart.{apart-left}
-use Rattle.account.specs.declared.Event.{Event}
+use Rattle.events.specs.declared.Event.{Event}
 use Rattle.account.specs.declared.Slot.{Slot}
 use Rattle.account.specs.declared.Account.{Account}
 use Rattle.account.specs.declared.places.Found.{Found}

@@ -13,8 +13,8 @@ use Rattle.rule.specs.Weigh.{decide, decideBehind}
 use Rattle.rule.specs.Weigh as rule-weigh
 use Rattle.rule.specs.Step.{Step, after, still, drainBy, drain, settle, askedBy, asked}
 use Rattle.rule.specs.Order.{guarded, oldestUndecided}
-use Rattle.account.specs.declared.Event.{Event}
-use Rattle.account.specs.declared.State.{State}
+use Rattle.events.specs.declared.Event.{Event}
+use Rattle.events.specs.declared.State.{State}
 use Rattle.account.specs.declared.Decision.{Decision}
 use Rattle.account.specs.declared.Decision.the-variants.{Undecided, Committed}
 use Rattle.account.specs.declared.Slot.{Slot}
@@ -26,7 +26,8 @@ use Rattle.account.specs.declared.places.Row.{Row}
 use Rattle.account.specs.declared.weighing.Verdict.{Verdict}
 use Rattle.account.specs.declared.weighing.Verdict.the-variants.{Accept, Reject, Hold}
 use Rattle.account.specs.declared.weighing.Weighing.{Weighing}
-use Rattle.account.specs.Panel.{effectOf, panel}
+use Rattle.events.specs.Events.{effectOf}
+use Rattle.account.specs.Panel.{panel}
 use Rattle.account.specs.Places.{RuleSlot, RuleAccount, decisionOf, slotOf, accountOf}
 use Rattle.account.specs.Steps.{RuleEntry, entryOf, entriesOf, most, blankEntry}
 use Rattle.account.specs.Clauses.{isAccept, isHold, listed}

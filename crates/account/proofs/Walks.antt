@@ -15,15 +15,16 @@ use borrow.Author.Tests.{lt-ltb, le-ltb}
 use Rattle.rule.specs.Rule as rule
 use Rattle.rule.specs.Outcome.{undecidedOf, outcome}
 use Rattle.rule.proofs.Exact.{applied-ones}
-use Rattle.account.specs.declared.Event.{Event}
+use Rattle.events.specs.declared.Event.{Event}
 use Rattle.account.specs.declared.Decision.{Decision}
 use Rattle.account.specs.declared.Decision.the-variants.{Undecided, Committed}
-use Rattle.account.specs.declared.State.{State}
+use Rattle.events.specs.declared.State.{State}
 use Rattle.account.specs.declared.Slot.{Slot}
 use Rattle.account.specs.declared.Account.{Account}
 use Rattle.account.specs.declared.Outlook.the-variants as Outlook′
 use Rattle.account.specs.declared.question.Reached.{Reached}
-use Rattle.account.specs.Panel.{effectOf, panel}
+use Rattle.events.specs.Events.{effectOf}
+use Rattle.account.specs.Panel.{panel}
 use Rattle.account.specs.Places.{RuleSlot, decisionOf, used, listsOf}
 use Rattle.account.specs.Order.{isUndecided, orderOf}
 use Rattle.account.specs.Steps.{outlookOf}

@@ -8,9 +8,9 @@ use Rattle.rule.specs.Lists.{numbers}
 use Rattle.rule.specs.Rule.{Message, request, commit, abort, Verdict, accept, reject, hold, Entry, voted, noted, applied, dropped, newAccount}
 use Rattle.rule.specs.Outcome.{undecidedOf, appliedIn, outcomes}
 use Rattle.rule.specs.Call.{Answer, refused, taken, call, reached}
-use Rattle.account.specs.declared.Event.{Event}
-use Rattle.account.specs.declared.Event.the-variants.{Open, Withdraw, Deposit, Close}
-use Rattle.account.specs.declared.State.{State}
+use Rattle.events.specs.declared.Event.{Event}
+use Rattle.events.specs.declared.Event.the-variants.{Open, Withdraw, Deposit, Close}
+use Rattle.events.specs.declared.State.{State}
 use Rattle.account.specs.Panel.{panel}
 use Rattle.account.specs.Places.{RuleAccount}
 

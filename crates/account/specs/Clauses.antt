@@ -5,7 +5,7 @@ use mathlib.Core.List.{List, [], _∷_}
 use Rattle.rule.specs.Lists.{some-of}
 use Rattle.rule.specs.Rule as rule
 use Rattle.rule.specs.Step.{named}
-use Rattle.account.specs.declared.State.{State}
+use Rattle.events.specs.declared.State.{State}
 use Rattle.account.specs.declared.weighing.Verdict.{Verdict}
 use Rattle.account.specs.declared.weighing.Verdict.the-variants.{Accept, Reject, Hold}
 use Rattle.account.specs.Places.{RuleSlot, RuleAccount}

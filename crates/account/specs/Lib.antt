@@ -4,7 +4,7 @@ pub mod Weighing
 pub mod Order
 pub mod Table
 pub mod Clauses
-pub mod Ends
+pub mod Known
 pub mod Steps
 pub mod Tests
 pub mod Promises

@@ -5,8 +5,7 @@ use lib.Dec.{leb, eqb}
 use lib.ListN.{drop}
 use Rattle.rule.specs.Lists.{every}
 use Rattle.rule.specs.Order as rule
-use Rattle.account.specs.declared.Event.{Event}
-use Rattle.account.specs.declared.Event.the-variants.{Open, Withdraw, Deposit, Close}
+use Rattle.events.specs.Events.{isBlankEvent}
 use Rattle.account.specs.declared.Decision.{Decision}
 use Rattle.account.specs.declared.Decision.the-variants.{Undecided, Committed}
 use Rattle.account.specs.declared.Slot.{Slot}
@@ -18,15 +17,9 @@ abbrev pub isUndecided : Decision → Bool
 isUndecided Undecided = true
 isUndecided Committed = false
 
-abbrev pub isOpenZero : Event → Bool
-isOpenZero (Open a) = eqb a 0
-isOpenZero (Withdraw a) = false
-isOpenZero (Deposit a) = false
-isOpenZero Close = false
-
--- whether a place is the blank (2.5)
+-- whether a place is the blank
 abbrev pub isBlank : Slot → Bool
-isBlank x = eqb (x .transaction) 0 && eqb (x .second) 0 && isOpenZero (x .event) && isUndecided (x .decision)
+isBlank x = eqb (x .transaction) 0 && eqb (x .second) 0 && isBlankEvent (x .event) && isUndecided (x .decision)
 
 -- neither count too high (6.1), nothing but the blank in unused places (6.3), and every clause that the rule has on the account's lists
 unfoldable pub orderOf : Account → Bool

@@ -5,10 +5,10 @@ use mathlib.Core.Path.{_≡_}
 use mathlib.Core.Bool.{Bool, true, false}
 use mathlib.Core.List.{List, [], _∷_, _++_, map}
 use lib.ListN.{length, take, replicate}
-use Rattle.account.specs.declared.Event.{Event}
-use Rattle.account.specs.declared.Event.the-variants.{Open, Withdraw, Deposit, Close}
-use Rattle.account.specs.declared.Life.{Life}
-use Rattle.account.specs.declared.Life.the-variants.{New, Opened, Closed}
+use Rattle.events.specs.declared.Event.{Event}
+use Rattle.events.specs.declared.Event.the-variants.{Open, Withdraw, Deposit, Close}
+use Rattle.events.specs.declared.Life.{Life}
+use Rattle.events.specs.declared.Life.the-variants.{New, Opened, Closed}
 use Rattle.account.specs.declared.Decision.{Decision}
 use Rattle.account.specs.declared.Decision.the-variants.{Undecided, Committed}
 use Rattle.account.specs.declared.Slot.{Slot}

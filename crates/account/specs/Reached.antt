@@ -5,10 +5,11 @@ use mathlib.Core.Bool.{cond}
 use mathlib.Core.List.{List}
 use lib.Dec.{eqb}
 use Rattle.rule.specs.Outcome.{undecidedOf, outcome}
-use Rattle.account.specs.declared.State.{State}
+use Rattle.events.specs.declared.State.{State}
 use Rattle.account.specs.declared.Slot.{Slot}
 use Rattle.account.specs.declared.question.Reached.{Reached}
-use Rattle.account.specs.Panel.{effectOf, panel}
+use Rattle.events.specs.Events.{effectOf}
+use Rattle.account.specs.Panel.{panel}
 use Rattle.account.specs.Places.{RuleSlot}
 use Rattle.account.specs.Order.{isUndecided}
 

@@ -10,8 +10,8 @@ use lib.ListN.{length, replicate}
 use Rattle.rule.specs.Rule as rule
 use Rattle.rule.specs.Outcome.{undecidedOf, appliedIn, outcome}
 use Rattle.rule.specs.Call as rule-call
-use Rattle.account.specs.declared.Event.{Event}
-use Rattle.account.specs.declared.State.{State}
+use Rattle.events.specs.declared.Event.{Event}
+use Rattle.events.specs.declared.State.{State}
 use Rattle.account.specs.declared.Account.{Account}
 use Rattle.account.specs.declared.Told.{Told}
 use Rattle.account.specs.declared.Told.the-variants.{Accepted, Rejected, Held, Noted, Applied, Dropped}

@@ -8,8 +8,8 @@ use Rattle.rule.specs.Rule as rule
 use Rattle.rule.specs.Lists.{some-of, keep}
 use Rattle.rule.specs.Step as rule-step
 use Rattle.rule.specs.Call.{namedCommitted}
-use Rattle.account.specs.declared.Event.{Event}
-use Rattle.account.specs.declared.State.{State}
+use Rattle.events.specs.declared.Event.{Event}
+use Rattle.events.specs.declared.State.{State}
 use Rattle.account.specs.declared.Slot.{Slot}
 use Rattle.account.specs.declared.Account.{Account}
 use Rattle.account.specs.declared.Entry.{Entry}

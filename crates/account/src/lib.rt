@@ -1,4 +1,4 @@
-// The first panel: the events of an account, its state, its places, and the account itself (docs/REGISTER.md, 2 and 3).
+// The first panel: an account, its places, what a call of it gives.
 
 mod order;
 mod places;
@@ -7,25 +7,8 @@ mod steps;
 mod weighing;
 mod written;
 
-// An event, with its amount of adjustment steps.
-pub enum Event {
-    Open(u32),
-    Withdraw(u32),
-    Deposit(u32),
-    Close,
-}
-
-pub enum Life {
-    New,
-    Opened,
-    Closed,
-}
-
-// The applied state of an account.
-pub struct State {
-    pub life: Life,
-    pub balance: u32,
-}
+use events::Event;
+use events::State;
 
 pub enum Decision {
     Undecided,
@@ -95,7 +78,7 @@ pub enum Outlook {
 const BLANK: Slot = Slot {
     transaction: 0,
     second: 0,
-    event: Event::Open(0),
+    event: Event::BLANK,
     decision: Decision::Undecided,
 };
 
@@ -108,19 +91,14 @@ impl Account {
     // The places of each row, of events in progress and of requests held.
     pub const PLACES: usize = 8;
 
-    // The limits: events in progress, requests held, the highest balance.
+    // The limits: events in progress, requests held.
     pub const PROGRESS: usize = Account::PLACES;
 
     pub const HELD: usize = Account::PLACES;
 
-    pub const LIMIT: u32 = 1_000_000;
-
     // A new account, with nothing in progress or held.
     pub const FRESH: Account = Account {
-        state: State {
-            life: Life::New,
-            balance: 0,
-        },
+        state: State::NEW,
         progress: [BLANK; Account::PLACES],
         progressing: 0,
         held: [BLANK; Account::PLACES],

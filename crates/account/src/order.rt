@@ -1,13 +1,11 @@
 // Whether an account is in order, clause by clause (docs/REGISTER.md, 6).
 use crate::Account;
-use crate::Event;
 use crate::Slot;
-use crate::State;
 use crate::weighing::Verdict;
 use crate::weighing::decide;
-use crate::weighing::is_opened;
 use crate::weighing::is_undecided;
 use crate::weighing::walk;
+use events::State;
 ghost use mathlib.Core.Path.{_≡_};
 ghost use mathlib.Core.Bool.{true};
 ghost use Prim.Native.Nat.{_≤_};
@@ -15,9 +13,9 @@ ghost use lib.ListN.{drop};
 ghost use mathlib.Core.List.{[]};
 ghost use Rattle.rule.specs.Lists.{every};
 ghost use Rattle.rule.specs.Order as rule;
-ghost use Rattle.account.specs.Panel.{panel, rowPlaces, stateFits};
+ghost use Rattle.account.specs.Panel.{panel, rowPlaces};
 ghost use Rattle.account.specs.Places.{used};
-ghost use Rattle.account.specs.Order.{isBlank, isOpenZero, orderOf};
+ghost use Rattle.account.specs.Order.{isBlank, orderOf};
 ghost use Rattle.account.specs.Clauses.{isAccept, isHold, apartBeside, listed};
 
 impl Account {
@@ -54,22 +52,14 @@ fn lists_in_order(
     ensures { λ r. ⌜ r ≡ rule.order panel (listed s (used progress progressing) (used held holding)) ⌝ }
 {
     if progressing + holding == 0 {
-        return fits(s);
+        return s.fits();
     }
-    fits(s)
+    s.fits()
         & (apart(progress, progressing, held, holding) & apart(held, holding, held, 0))
         & without_decision(held, holding)
         & guarded(s, progress, progressing)
         & oldest_undecided(progress, progressing)
         & oldest_stays_held(s, progress, progressing, held, holding)
-}
-
-// Whether the balance is within limits, and 0 unless the account is opened.
-fn fits(s: State) -> bool
-    ensures { λ r. ⌜ r ≡ stateFits s ⌝ }
-{
-    let life = s.life;
-    (s.balance <= Account::LIMIT) & (is_opened(life) | (s.balance == 0))
 }
 
 // Whether every place from this one on is blank.
@@ -94,19 +84,7 @@ fn is_blank(place: Slot) -> bool
 {
     let event = place.event;
     let decision = place.decision;
-    (place.transaction == 0) & (place.second == 0) & is_open_zero(event) & is_undecided(decision)
-}
-
-// Whether the event is the blank's.
-fn is_open_zero(e: Event) -> bool
-    ensures { λ r. ⌜ r ≡ isOpenZero e ⌝ }
-{
-    match e {
-        Event::Open(a) => a == 0,
-        Event::Withdraw(_) => false,
-        Event::Deposit(_) => false,
-        Event::Close => false,
-    }
+    (place.transaction == 0) & (place.second == 0) & event.is_blank() & is_undecided(decision)
 }
 
 // Whether each of these transactions differs from those behind it and from all of the others.

@@ -2,9 +2,8 @@
 use crate::Account;
 use crate::Outlook;
 use crate::Slot;
-use crate::State;
-use crate::weighing::effect;
 use crate::weighing::is_undecided;
+use events::State;
 ghost use mathlib.Core.Path.{_≡_};
 ghost use Prim.Native.Nat.{_≤_};
 ghost use Rattle.account.specs.Places.{used};
@@ -65,7 +64,7 @@ fn follow(reached: Reached, place: Slot) -> Reached
     let left = reached.left;
     let event = place.event;
     let decision = place.decision;
-    let applied = effect(event, state);
+    let applied = event.effect(state);
     if is_undecided(decision) {
         if left % 2 == 1 {
             Reached {

@@ -5,16 +5,15 @@ use crate::Called;
 use crate::Decision;
 use crate::Entries;
 use crate::Entry;
-use crate::Event;
 use crate::Slot;
-use crate::State;
 use crate::order::is_accept;
 use crate::order::is_hold;
 use crate::places::Row;
 use crate::weighing::Verdict;
 use crate::weighing::Weighing;
 use crate::weighing::decide;
-use crate::weighing::effect;
+use events::Event;
+use events::State;
 ghost use mathlib.Core.Path.{_≡_};
 ghost use mathlib.Core.Bool.{true};
 ghost use mathlib.Core.List.{List, []};
@@ -26,7 +25,7 @@ ghost use Rattle.rule.specs.Step as rule;
 ghost use Rattle.account.specs.Panel.{panel, rowPlaces};
 ghost use Rattle.account.specs.Places.{RuleSlot, slotOf};
 ghost use Rattle.account.specs.Order.{orderOf};
-ghost use Rattle.account.specs.Ends.{Decides};
+ghost use Rattle.account.specs.Known.{Decides};
 ghost use Rattle.account.specs.Clauses.{isAccept, listed};
 ghost use Rattle.account.specs.Steps.{RuleEntry, most, entriesOf, stepOf, refusedBy};
 ghost use Rattle.account.specs.Rows.{row, listOf, rowOf};
@@ -247,7 +246,7 @@ fn settle(state: State, progress: Row, held: Row, entries: Entries) -> Called
     while !progress.settled(first) {
         let slot = slots[first];
         let event = slot.event;
-        settled = effect(event, settled);
+        settled = event.effect(settled);
         told = told.with(Entry::applied(slot, settled.balance));
         first += 1;
     }

@@ -22,10 +22,11 @@ use Rattle.rule.specs.Call as call
 use Rattle.rule.specs.Written.{OnlyApplied, OnlyDecided, Following, Shape}
 use Rattle.rule.proofs.Order.{order-clauses}
 use Rattle.rule.proofs.Written.{step-shape}
-use Rattle.account.specs.declared.Event.{Event}
+use Rattle.events.specs.declared.Event.{Event}
 use Rattle.account.specs.declared.Slot.{Slot as Place}
 use Rattle.account.specs.declared.Account.{Account}
-use Rattle.account.specs.Panel.{panel, effectOf}
+use Rattle.events.specs.Events.{effectOf}
+use Rattle.account.specs.Panel.{panel}
 use Rattle.account.specs.Places.{RuleAccount, listsOf, accountOf, used}
 use Rattle.account.specs.Order.{orderOf}
 use Rattle.account.specs.Steps.{RuleEntry, entryOf, votedAs, entriesOf, blankEntry, most, stepOf, calledBy}

@@ -13,7 +13,7 @@ use lib.ListN.{length, getD, take, drop, length-append}
 use Rattle.account.specs.declared.Entry.{Entry}
 use Rattle.layout.specs.Number.{numberAt}
 use Rattle.layout.specs.Fields.{Row, rowOf, wholeOf, thenOf, widthsOf, numbersAt, total, lastAccount}
-use Rattle.layout.specs.Events.{eventKind, amountOf, eventOf}
+use Rattle.events.specs.Kinds.{eventKind, amountOf, eventOf}
 use Rattle.layout.specs.Inverse.{Fit}
 use Rattle.layout.proofs.Numbers.{numberAt-fits}
 use Rattle.layout.proofs.Fields.{fit-heading, numbersAt-fit, numbersAt-written, written-numbersAt}

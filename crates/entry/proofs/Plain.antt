@@ -10,12 +10,12 @@ use borrow.Author.Tests.{leb-true, leb-false, eqb-true, eqb-false, le-ltb}
 use lib.Dec.{eqb, leb}
 use lib.ListN.{length, take, drop}
 use lib.Seq.{drop-at}
-use Rattle.account.specs.declared.Event.{Event}
-use Rattle.account.specs.declared.Event.the-variants.{Open, Withdraw, Deposit, Close}
+use Rattle.events.specs.declared.Event.{Event}
+use Rattle.events.specs.declared.Event.the-variants.{Open, Withdraw, Deposit, Close}
 use Rattle.account.specs.declared.Entry.{Entry}
 use Rattle.layout.specs.Number.{bytesOf}
 use Rattle.layout.specs.Fields.{written, rowOf, wholeOf}
-use Rattle.layout.specs.Events.{eventKind, amountOf}
+use Rattle.events.specs.Kinds.{eventKind, amountOf}
 use Rattle.layout.specs.Answers.{wroteOver}
 use Rattle.layout.proofs.Plain.{numbers-plain}
 use Rattle.entry.specs.Bytes.{entryRows, bytesOfEntry, bytesOfEntries, wholesOf, lengthOfTold}

@@ -13,7 +13,7 @@ use Rattle.account.specs.declared.Entry.{Entry}
 use Rattle.layout.specs.Number.{numberAt}
 use Rattle.layout.specs.Fields.{Row, rowOf, wholeOf, thenOf, widthsOf, numbersAt, lastAccount}
 use Rattle.layout.specs.Shapes.{wide, shapeOf}
-use Rattle.layout.specs.Events.{eventOf}
+use Rattle.events.specs.Kinds.{eventOf}
 use Rattle.layout.proofs.Tables.{present, unknown}
 use Rattle.layout.proofs.Shapes.{found-holds, padded-read, padded-at}
 use Rattle.entry.specs.declared.EntryReading.the-variants.{Found, Nothing}

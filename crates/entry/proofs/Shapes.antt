@@ -7,15 +7,15 @@ use mathlib.Core.Bool.{true}
 use lib.Dec.{lit<}
 use mathlib.Core.List.{_∷_}
 use lib.ListN.{length, getD, replicate}
-use Rattle.account.specs.declared.Event.{Event}
-use Rattle.account.specs.declared.Event.the-variants.{Open, Withdraw, Deposit, Close}
+use Rattle.events.specs.declared.Event.{Event}
+use Rattle.events.specs.declared.Event.the-variants.{Open, Withdraw, Deposit, Close}
 use Rattle.account.specs.declared.Told.{Told}
 use Rattle.account.specs.declared.Told.the-variants.{Accepted, Rejected, Held, Noted, Applied, Dropped}
 use Rattle.layout.specs.Fields.{rowOf, thenOf, widthsOf, total}
 use Rattle.layout.specs.Shapes.{padded}
-use Rattle.layout.specs.Events.{eventKind, amountOf, eventOf}
+use Rattle.events.specs.Kinds.{eventKind, amountOf, eventOf}
 use Rattle.layout.specs.Inverse.{Fit, none, one}
-use Rattle.layout.proofs.Events.{event-is, kind-fits}
+use Rattle.events.proofs.Table.{event-is, kind-fits}
 use Rattle.layout.proofs.Fields.{fit-head, fit-tail}
 use Rattle.layout.proofs.Shapes.{Hold}
 use Rattle.entry.specs.Bytes.{entryRows, kindOf, thenNumbers, lengthOfTold, toldBy}

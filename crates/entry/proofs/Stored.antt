@@ -12,7 +12,7 @@ use borrow.Author.Tests.{leb-true, leb-false}
 use lib.Dec.{leb}
 use lib.ListN.{length, getD, take, length-append}
 use lib.Seq.{sets, take-suc, take-all}
-use Rattle.account.specs.declared.Event.the-variants.{Open}
+use Rattle.events.specs.declared.Event.the-variants.{Open}
 use Rattle.account.specs.declared.Told.{Told}
 use Rattle.account.specs.declared.Told.the-variants.{Accepted}
 use Rattle.account.specs.declared.Entry.{Entry}

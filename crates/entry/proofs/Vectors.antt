@@ -3,7 +3,7 @@
 use mathlib.Core.Path.{refl}
 use Rattle.layout.specs.Number.{bytesOf, numberAt}
 use Rattle.layout.specs.Fields.{written, numbersAt, rowOf}
-use Rattle.layout.specs.Events.{eventOf}
+use Rattle.events.specs.Kinds.{eventOf}
 use Rattle.entry.specs.Bytes.{entryRows, bytesOfEntry, bytesOfEntries, lengthOfTold, toldBy}
 use Rattle.entry.specs.Answers.{readOf, writeOf}
 use Rattle.entry.specs.Vectors.{table, unreads, call, callBytes, VectorsHold}

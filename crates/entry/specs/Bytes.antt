@@ -5,13 +5,13 @@ use mathlib.Core.Bool.{cond}
 use mathlib.Core.List.{List, [], _∷_, _++_}
 use lib.Dec.{eqb}
 use lib.ListN.{getD, take}
-use Rattle.account.specs.declared.Event.{Event}
+use Rattle.events.specs.declared.Event.{Event}
 use Rattle.account.specs.declared.Told.{Told}
 use Rattle.account.specs.declared.Told.the-variants.{Accepted, Rejected, Held, Noted, Applied, Dropped}
 use Rattle.account.specs.declared.Entry.{Entry}
 use Rattle.account.specs.declared.Entries.{Entries}
 use Rattle.layout.specs.Fields.{Row, row, rowOf, wholeOf, widthsOf, written}
-use Rattle.layout.specs.Events.{eventKind, amountOf, eventOf}
+use Rattle.events.specs.Kinds.{eventKind, amountOf, eventOf}
 
 -- the table: kind, whole length, and the widths of what follows the heading
 unfoldable pub entryRows : List Row

@@ -9,7 +9,7 @@ use Rattle.account.specs.declared.Told.the-variants.{Accepted, Rejected, Held, 
 use Rattle.account.specs.declared.Entry.{Entry}
 use Rattle.layout.specs.Number.{AreBytes}
 use Rattle.layout.specs.Fields.{lastAccount}
-use Rattle.layout.specs.Events.{amountOf}
+use Rattle.events.specs.Kinds.{amountOf}
 use Rattle.entry.specs.declared.EntryReading.the-variants.{Found}
 use Rattle.entry.specs.Bytes.{bytesOfEntry, lengthOfTold}
 use Rattle.entry.specs.Answers.{readOf}

@@ -8,9 +8,9 @@ use lib.Dec.{ltb}
 use lib.ListN.{length}
 use Rattle.rule.specs.Lists.{every}
 use Rattle.rule.specs.Rule as rule
-use Rattle.account.specs.declared.Event.{Event}
-use Rattle.account.specs.declared.Event.the-variants.{Deposit}
-use Rattle.account.specs.declared.Life.the-variants.{Opened}
+use Rattle.events.specs.declared.Event.{Event}
+use Rattle.events.specs.declared.Event.the-variants.{Deposit}
+use Rattle.events.specs.declared.Life.the-variants.{Opened}
 use Rattle.account.specs.declared.Account.{Account}
 use Rattle.account.specs.declared.Told.{Told}
 use Rattle.account.specs.declared.Told.the-variants.{Accepted, Rejected, Held, Noted, Applied, Dropped}

@@ -1,10 +1,10 @@
 -- What follows the heading of an entry as the code holds it: three numbers, 0 where the entry has no such number (clause 9.1).
 -- Assumes nothing.
 use Prim.Native.Nat.{ℕ}
-use Rattle.account.specs.declared.Event.{Event}
+use Rattle.events.specs.declared.Event.{Event}
 use Rattle.account.specs.declared.Told.{Told}
 use Rattle.account.specs.declared.Told.the-variants.{Accepted, Rejected, Held, Noted, Applied, Dropped}
-use Rattle.layout.specs.Events.{eventKind, amountOf}
+use Rattle.events.specs.Kinds.{eventKind, amountOf}
 use Rattle.entry.specs.declared.kinds.Then.{Then}
 
 abbrev pub withEvent : Event → (number : ℕ) → Then

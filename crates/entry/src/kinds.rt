@@ -5,8 +5,8 @@ ghost use Rattle.layout.specs.Shapes.{padded, shapeOf};
 ghost use Rattle.entry.specs.Bytes.{entryRows, kindOf, numbersOf, toldBy};
 ghost use Rattle.entry.specs.Numbers.{thenIn, withEvent};
 use account::Entry;
-use account::Event;
 use account::Told;
+use events::Event;
 use layout::Shape;
 
 // The table of kinds: kind, transaction, account, second; then event kind and amount; then outcomes weighed, or balance.
@@ -94,8 +94,8 @@ fn with_event(event: Event, number: u32) -> Then
     ensures { λ r. ⌜ r ≡ withEvent event number ⌝ }
 {
     Then {
-        event: layout::event_kind(event) as u32,
-        amount: layout::event_amount(event),
+        event: event.kind() as u32,
+        amount: event.amount(),
         number,
     }
 }

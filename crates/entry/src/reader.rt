@@ -1,12 +1,12 @@
 // The reader of one entry.
 ghost use mathlib.Core.Path.{_≡_};
-ghost use Rattle.layout.specs.Events.{eventOf};
+ghost use Rattle.events.specs.Kinds.{eventOf};
 ghost use Rattle.entry.specs.Bytes.{entryBy};
 ghost use Rattle.entry.specs.Answers.{eventFits, readOf};
 use crate::EntryReading;
 use crate::kinds;
 use account::Entry;
-use account::Event;
+use events::Event;
 
 // The entry that the bytes begin with, by the layout alone; bytes after it are not looked at.
 pub fn read_entry(bytes: &[u8]) -> EntryReading
@@ -55,8 +55,8 @@ fn event_of(kind: u32, amount: u32) -> Event
     ensures { λ r. ⌜ r ≡ eventOf kind amount ⌝ }
 {
     if kind < 256 {
-        layout::event_of(kind as u8, amount)
+        Event::of(kind as u8, amount)
     } else {
-        layout::event_of(0, amount)
+        Event::of(0, amount)
     }
 }

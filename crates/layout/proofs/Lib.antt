@@ -4,7 +4,6 @@ pub mod Numbers
 pub mod Fields
 pub mod Shapes
 pub mod Tables
-pub mod Events
 pub mod Answers
 pub mod Plain
 pub mod Forms

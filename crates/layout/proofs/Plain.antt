@@ -1,20 +1,18 @@
--- The plain sayings of numbers, the heading, events and buffers. A number of 2 or 4 bytes by computing it, of any width by induction on the width.
+-- The plain sayings of numbers, the heading and buffers. A number of 2 or 4 bytes by computing it, of any width by induction on the width.
 -- Assumes nothing.
 use Prim.Native.Nat.{ℕ, zero, suc, _+_, _-_, _/_, _%_, _^_, _≤_, _<_}
 use native.Mathlib.Nat.{add-zero, pow-zero, pow-suc, div-div-eq-div-mul, div-one, mul-comm}
 use native.Mathlib.Omega.{arith}
 use mathlib.Core.Path.{_≡_, refl, _∙_}
-use mathlib.Core.Bool.{Bool, true, false, _&&_, true≢false}
+use mathlib.Core.Bool.{Bool, true, false}
 use mathlib.Core.List.{List, [], _∷_, _++_}
-use borrow.Author.Tests.{ne-eqb, leb-false, ltb-true, ltb-false}
-use lib.Dec.{leb, ltb, lit<}
+use borrow.Author.Tests.{ltb-true, ltb-false}
+use lib.Dec.{ltb, lit<}
 use lib.ListN.{length, getD, drop, List·getD-append}
 use lib.Seq.{getD-at, getD-append-add, getD-drop}
-use Rattle.account.specs.declared.Event.the-variants.{Close}
 use Rattle.layout.specs.Number.{bytesOf, numberAt, AreBytes}
 use Rattle.layout.specs.Fields.{written}
-use Rattle.layout.specs.Events.{eventOf}
-use Rattle.layout.specs.Plain.{NumbersPlain, Byte, BytesHighestFirst, HeadingPlain, EventsPlain, LaidOverPlain}
+use Rattle.layout.specs.Plain.{NumbersPlain, Byte, BytesHighestFirst, HeadingPlain, LaidOverPlain}
 use Rattle.layout.proofs.Numbers.{length-bytesOf, numberAt-one}
 
 pub numbers-plain : NumbersPlain
@@ -62,19 +60,6 @@ unfolding written
 heading-plain kind transaction account second =
     let n = numbers-plain [] 0 in
     rw (n kind .bytes1, n transaction .bytes4, n account .bytes2, n second .bytes4)
-
-pub events-plain : EventsPlain
-unfolding eventOf
-events-plain amount = record { kinds = refl; amounts = refl; back = refl; other = λ kind h. go kind (leb 1 kind) (leb kind 3) refl refl h }
-  where
-    go : (kind : ℕ) (a b : Bool) → leb 1 kind ≡ a → leb kind 3 ≡ b → a && b ≡ false → eventOf kind amount ≡ Close
-    go kind true true p q h = absurd (true≢false h)
-    go kind true false p q h =
-        let k : 3 < kind = leb-false kind 3 q in
-        rw (ne-eqb kind 1 (omega arith), ne-eqb kind 2 (omega arith), ne-eqb kind 3 (omega arith))
-    go kind false b p q h =
-        let k : kind < 1 = leb-false 1 kind p in
-        rw (ne-eqb kind 1 (omega arith), ne-eqb kind 2 (omega arith), ne-eqb kind 3 (omega arith))
 
 pub laid-over-plain : LaidOverPlain
 laid-over-plain bytes buffer =

@@ -1,7 +1,6 @@
 pub mod Number
 pub mod Fields
 pub mod Shapes
-pub mod Events
 pub mod Answers
 pub mod Inverse
 pub mod Plain

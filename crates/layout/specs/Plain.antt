@@ -1,17 +1,12 @@
--- Numbers, the heading, events and buffers (docs/REGISTER.md, 8.1, 9.1 and 9.2) in plain arithmetic and plain rows: the definitions of this crate
--- said a second time, from outside. A byte order, a field's place or an event's kind that definition and code changed together would be seen here.
+-- Numbers, the heading and buffers (docs/REGISTER.md, 8.1 and 9.1) in plain arithmetic and plain rows: the definitions of this crate
+-- said a second time, from outside. A byte order or a field's place that definition and code changed together would be seen here.
 -- Assumes nothing.
 use Prim.Native.Nat.{ℕ, _+_, _*_, _-_, _/_, _%_, _^_, _≤_, _<_}
 use mathlib.Core.Path.{_≡_}
-use mathlib.Core.Bool.{false, _&&_}
-use mathlib.Core.List.{List, [], _∷_, _++_, map}
-use lib.Dec.{leb}
+use mathlib.Core.List.{List, [], _∷_, _++_}
 use lib.ListN.{length, getD}
-use Rattle.account.specs.declared.Event.{Event}
-use Rattle.account.specs.declared.Event.the-variants.{Open, Withdraw, Deposit, Close}
 use Rattle.layout.specs.Number.{bytesOf, numberAt, AreBytes}
 use Rattle.layout.specs.Fields.{written, heading}
-use Rattle.layout.specs.Events.{eventKind, amountOf, eventOf}
 use Rattle.layout.specs.Answers.{laidOver}
 
 -- the number in 2 bytes, and in 4
@@ -60,19 +55,6 @@ HeadingPlain =
     (kind transaction account second : ℕ)
     → written heading (kind ∷ transaction ∷ account ∷ second ∷ [])
     ≡ kind % 256 ∷ (fourOf transaction ++ (twoOf account ++ fourOf second))
-
--- the four events in the order of their kinds 1 to 4; a close has the amount 0
-abbrev pub events : (amount : ℕ) → List Event
-events amount = Open amount ∷ Withdraw amount ∷ Deposit amount ∷ Close ∷ []
-
-pub record Events (amount : ℕ) : Type 0 where
-  pub kinds : map eventKind (events amount) ≡ 1 ∷ 2 ∷ 3 ∷ 4 ∷ []
-  pub amounts : map amountOf (events amount) ≡ amount ∷ amount ∷ amount ∷ 0 ∷ []
-  pub back : map (λ (kind : ℕ). eventOf kind amount) (1 ∷ 2 ∷ 3 ∷ 4 ∷ []) ≡ events amount
-  pub other : (kind : ℕ) → leb 1 kind && leb kind 3 ≡ false → eventOf kind amount ≡ Close
-
-abbrev pub EventsPlain : Type 0
-EventsPlain = (amount : ℕ) → Events amount
 
 -- bytes laid over a buffer stand at its beginning, and behind them stands what stood there
 pub record Over (bytes buffer : List ℕ) : Type 0 where

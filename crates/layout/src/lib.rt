@@ -1,4 +1,4 @@
-// What messages and entries share of their bytes: numbers, highest byte first, rows of them, an event's kind and amount.
+// What messages and entries share of their bytes: numbers, highest byte first, and rows of them.
 // Every function takes any buffer and any place: a byte past the end is not stored, and counts as 0 when it is read.
 ghost use mathlib.Core.Path.{_≡_};
 ghost use mathlib.Core.List.{map};
@@ -8,8 +8,6 @@ ghost use Prim.Native.Nat.{_+_, _≤_, _<_, _^_};
 ghost use Rattle.layout.specs.Number.{bytesOf, numberAt};
 ghost use Rattle.layout.specs.Fields.{written, numbersAt};
 ghost use Rattle.layout.specs.Shapes.{wide};
-ghost use Rattle.layout.specs.Events.{eventKind, amountOf, eventOf};
-use account::Event;
 
 // The accounts are numbered from 0 to this one.
 pub const LAST_ACCOUNT: u16 = 15;
@@ -103,42 +101,6 @@ pub fn number4(bytes: &[u8], at: usize) -> u32
         return four(bytes, at);
     }
     by_bytes(bytes, at, 4)
-}
-
-// The kind of an event.
-pub fn event_kind(event: Event) -> u8
-    ensures { λ r. ⌜ r ≡ eventKind event ⌝ }
-{
-    match event {
-        Event::Open(_) => 1,
-        Event::Withdraw(_) => 2,
-        Event::Deposit(_) => 3,
-        Event::Close => 4,
-    }
-}
-
-// The amount of an event.
-pub fn event_amount(event: Event) -> u32
-    ensures { λ r. ⌜ r ≡ amountOf event ⌝ }
-{
-    match event {
-        Event::Open(amount) => amount,
-        Event::Withdraw(amount) => amount,
-        Event::Deposit(amount) => amount,
-        Event::Close => 0,
-    }
-}
-
-// The event of a kind and an amount.
-pub fn event_of(kind: u8, amount: u32) -> Event
-    ensures { λ r. ⌜ r ≡ eventOf kind amount ⌝ }
-{
-    match kind {
-        1 => Event::Open(amount),
-        2 => Event::Withdraw(amount),
-        3 => Event::Deposit(amount),
-        _ => Event::Close,
-    }
 }
 
 // How many bytes a number of that width has.

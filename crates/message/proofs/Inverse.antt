@@ -12,7 +12,7 @@ use lib.Dec.{eqb, ltb, lit<}
 use lib.ListN.{length, getD, take, length-append}
 use Rattle.layout.specs.Number.{numberAt, AreBytes}
 use Rattle.layout.specs.Fields.{Row, rowOf, wholeOf, thenOf, widthsOf, numbersAt, total, lastAccount}
-use Rattle.layout.specs.Events.{eventOf}
+use Rattle.events.specs.Kinds.{eventOf}
 use Rattle.layout.specs.Inverse.{Fit}
 use Rattle.layout.proofs.Numbers.{numberAt-fits}
 use Rattle.layout.proofs.Fields.{fit-heading, numbersAt-written, written-numbersAt}

@@ -10,7 +10,7 @@ use lib.ListN.{length, getD}
 use Rattle.layout.specs.Number.{numberAt}
 use Rattle.layout.specs.Fields.{Row, rowOf, wholeOf, thenOf, widthsOf, numbersAt, lastAccount}
 use Rattle.layout.specs.Shapes.{wide, shapeOf}
-use Rattle.layout.specs.Events.{eventOf}
+use Rattle.events.specs.Kinds.{eventOf}
 use Rattle.layout.proofs.Tables.{present, unknown}
 use Rattle.layout.proofs.Shapes.{found-holds, padded-read, padded-at}
 use Rattle.message.specs.declared.Heading.{Heading}

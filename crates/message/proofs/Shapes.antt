@@ -6,10 +6,10 @@ use mathlib.Core.Path.{_≡_, refl}
 use lib.Dec.{lit<}
 use mathlib.Core.List.{_∷_}
 use lib.ListN.{length, getD, replicate}
-use Rattle.account.specs.declared.Event.the-variants.{Open, Withdraw, Deposit, Close}
+use Rattle.events.specs.declared.Event.the-variants.{Open, Withdraw, Deposit, Close}
 use Rattle.layout.specs.Fields.{rowOf, thenOf, widthsOf, total}
 use Rattle.layout.specs.Shapes.{padded}
-use Rattle.layout.specs.Events.{eventOf}
+use Rattle.events.specs.Kinds.{eventOf}
 use Rattle.layout.specs.Inverse.{Fit, none, one}
 use Rattle.layout.proofs.Shapes.{Hold}
 use Rattle.message.specs.declared.Message.{Message}

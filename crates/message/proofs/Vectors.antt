@@ -3,7 +3,7 @@
 use mathlib.Core.Path.{refl}
 use Rattle.layout.specs.Number.{bytesOf, numberAt}
 use Rattle.layout.specs.Fields.{written, numbersAt, rowOf}
-use Rattle.layout.specs.Events.{eventOf}
+use Rattle.events.specs.Kinds.{eventOf}
 use Rattle.message.specs.Bytes.{messages, bytesOfMessage, lengthOfMessage, messageBy}
 use Rattle.message.specs.Answers.{readOf, writeOf}
 use Rattle.message.specs.Vectors.{table, unreads, unwrittens, VectorsHold}

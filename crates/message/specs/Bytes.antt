@@ -5,9 +5,9 @@ use mathlib.Core.Bool.{cond}
 use mathlib.Core.List.{List, [], _∷_}
 use lib.Dec.{eqb}
 use lib.ListN.{getD}
-use Rattle.account.specs.declared.Event.the-variants.{Open, Withdraw, Deposit, Close}
+use Rattle.events.specs.declared.Event.the-variants.{Open, Withdraw, Deposit, Close}
 use Rattle.layout.specs.Fields.{Row, row, rowOf, wholeOf, widthsOf, written}
-use Rattle.layout.specs.Events.{eventKind, amountOf, eventOf}
+use Rattle.events.specs.Kinds.{eventKind, amountOf, eventOf}
 use Rattle.message.specs.declared.Heading.{Heading}
 use Rattle.message.specs.declared.Message.{Message}
 use Rattle.message.specs.declared.Message.the-variants.{Request, Commit, Abort}

@@ -4,7 +4,7 @@ ghost use Rattle.layout.specs.Fields.{rowOf, wholeOf};
 ghost use Rattle.layout.specs.Shapes.{padded, shapeOf};
 ghost use Rattle.message.specs.Bytes.{messages, kindOf, headingOf, amountIn, numbersOf, messageBy};
 ghost use Rattle.message.specs.Answers.{readOf, writeOf};
-use account::Event;
+use events::Event;
 use layout::Shape;
 use layout::Writing;
 
@@ -112,7 +112,7 @@ fn message_of(kind: u8, heading: Heading, amount: u32) -> Message
     match kind {
         5 => Message::Commit(heading),
         6 => Message::Abort(heading),
-        _ => Message::Request(heading, layout::event_of(kind, amount)),
+        _ => Message::Request(heading, Event::of(kind, amount)),
     }
 }
 
@@ -121,7 +121,7 @@ fn kind_of(message: Message) -> u8
     ensures { λ r. ⌜ r ≡ kindOf message ⌝ }
 {
     match message {
-        Message::Request(_, event) => layout::event_kind(event),
+        Message::Request(_, event) => event.kind(),
         Message::Commit(_) => 5,
         Message::Abort(_) => 6,
     }
@@ -143,7 +143,7 @@ fn amount_of(message: Message) -> u32
     ensures { λ r. ⌜ r ≡ amountIn message ⌝ }
 {
     match message {
-        Message::Request(_, event) => layout::event_amount(event),
+        Message::Request(_, event) => event.amount(),
         Message::Commit(_) => 0,
         Message::Abort(_) => 0,
     }

@@ -5,10 +5,10 @@ use crate::page::Page;
 use crate::places;
 use account::Account;
 use account::Decision;
-use account::Event;
-use account::Life;
 use account::Slot;
-use account::State;
+use events::Event;
+use events::Life;
+use events::State;
 use register::Register;
 
 // Frame 5: sets a field of an account, or of a place of it, and nothing else.
@@ -58,7 +58,7 @@ fn slot_takes(slot: Slot, field: u8, value: u32) -> bool {
         6 => (1 <= value) & (value <= 4),
         7 => {
             let event = slot.event;
-            layout::event_kind(event) != 4
+            event.kind() != 4
         }
         8 => value <= 1,
         _ => false,
@@ -130,11 +130,8 @@ fn slot_with(slot: Slot, field: u8, value: u32) -> Slot {
     match field {
         4 => with_heading(slot, value, slot.second),
         5 => with_heading(slot, slot.transaction, value),
-        6 => with_event(
-            slot,
-            layout::event_of(kind_of(value), layout::event_amount(event)),
-        ),
-        7 => with_event(slot, layout::event_of(layout::event_kind(event), value)),
+        6 => with_event(slot, Event::of(kind_of(value), event.amount())),
+        7 => with_event(slot, Event::of(event.kind(), value)),
         _ => with_decision(slot, decision_of(value)),
     }
 }

@@ -3,9 +3,9 @@ use crate::messages;
 use crate::page;
 use crate::page::Page;
 use account::Entry;
-use account::Event;
 use account::Told;
 use entry::EntryReading;
+use events::Event;
 use layout::Writing;
 
 // Frame 7: the entry reader.

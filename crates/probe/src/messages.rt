@@ -1,6 +1,7 @@
 // The message reader and the message writer: frames 3 and 4.
 use crate::page;
 use crate::page::Page;
+use events::Event;
 use layout::Writing;
 use message::Heading;
 use message::Message;
@@ -29,8 +30,8 @@ fn refusal_of(reading: Reading) -> u8 {
 fn put_message(message: Message, page: &mut Page, at: usize) -> usize {
     match message {
         Message::Request(heading, event) => {
-            let end = put_heading(layout::event_kind(event), heading, page, at);
-            page::field(page, end, layout::event_amount(event))
+            let end = put_heading(event.kind(), heading, page, at);
+            page::field(page, end, event.amount())
         }
         Message::Commit(heading) => {
             let end = put_heading(5, heading, page, at);
@@ -98,6 +99,6 @@ fn message_of(kind: u8, heading: Heading, amount: u32) -> Message {
     match kind {
         5 => Message::Commit(heading),
         6 => Message::Abort(heading),
-        _ => Message::Request(heading, layout::event_of(kind, amount)),
+        _ => Message::Request(heading, Event::of(kind, amount)),
     }
 }

@@ -1,7 +1,7 @@
 // The text on its way out. Each function puts something behind the text, which ends at `at` in the page, and answers where it ends then.
-use account::Event;
-use account::Life;
-use account::State;
+use events::Event;
+use events::Life;
+use events::State;
 
 const WHOLE_PAGE: usize = 4_096;
 
@@ -88,8 +88,8 @@ pub(crate) fn count(page: &mut Page, at: usize, number: usize) -> usize {
 
 // Puts an event's kind and amount, each behind a separator.
 pub(crate) fn event(page: &mut Page, at: usize, separator: u8, event: Event) -> usize {
-    let end = part(page, at, separator, layout::event_kind(event) as u32);
-    part(page, end, separator, layout::event_amount(event))
+    let end = part(page, at, separator, event.kind() as u32);
+    part(page, end, separator, event.amount())
 }
 
 // Puts a number's digits.

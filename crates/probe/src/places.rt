@@ -4,8 +4,8 @@ ghost use Rattle.account.specs.Panel.{rowPlaces};
 ghost use Rattle.layout.specs.Fields.{lastAccount};
 use account::Account;
 use account::Decision;
-use account::Event;
 use account::Slot;
+use events::Event;
 use register::Register;
 
 // The places of an account.
@@ -71,7 +71,7 @@ pub(crate) fn is_blank(slot: Slot) -> bool {
 
 // Whether an event is the blank's.
 fn is_open_zero(event: Event) -> bool {
-    (layout::event_kind(event) == 1) & (layout::event_amount(event) == 0)
+    (event.kind() == 1) & (event.amount() == 0)
 }
 
 // Whether a decision is the blank's.

@@ -10,6 +10,7 @@ use account::Answer;
 use account::Called;
 use account::Entries;
 use account::Entry;
+use events::Event;
 use register::Register;
 
 // Frame 68: one step of an account; the register goes on with the account that the step handed back.
@@ -43,7 +44,7 @@ fn stepped(account: Account, kind: u8, payload: &[u8]) -> Called {
     match kind {
         5 => account.commit(transaction, second),
         6 => account.abort(transaction, second),
-        _ => account.request(transaction, second, layout::event_of(kind, amount)),
+        _ => account.request(transaction, second, Event::of(kind, amount)),
     }
 }
 

@@ -8,7 +8,7 @@ use borrow.Author.Tests.{le-ltb}
 use lib.ListN.{length}
 use Rattle.rule.specs.Call as rule-call
 use Rattle.account.specs.declared.Account.{Account}
-use Rattle.account.specs.declared.Event.{Event}
+use Rattle.events.specs.declared.Event.{Event}
 use Rattle.account.specs.Panel.{panel}
 use Rattle.account.specs.Places.{RuleAccount, listsOf}
 use Rattle.account.specs.Steps.{calledBy, stepOf}

@@ -21,11 +21,12 @@ use Rattle.rule.proofs.Reached.{Told, new-told, call-told, refusal-told}
 use Rattle.rule.proofs.Order.{rest-order, clauses-order}
 use Rattle.rule.proofs.Says.{call-says}
 use Rattle.rule.proofs.Demand.{kept-demand3}
-use Rattle.account.specs.declared.Event.{Event}
-use Rattle.account.specs.declared.Event.the-variants.{Open, Withdraw, Deposit, Close}
-use Rattle.account.specs.declared.State.{State}
+use Rattle.events.specs.declared.Event.{Event}
+use Rattle.events.specs.declared.Event.the-variants.{Open, Withdraw, Deposit, Close}
+use Rattle.events.specs.declared.State.{State}
 use Rattle.account.specs.declared.Account.{Account}
-use Rattle.account.specs.Panel.{limit, isNew, isOpened, guardOf, tableEffect, effectOf, panel}
+use Rattle.events.specs.Events.{limit, isNew, isOpened, guardOf, tableEffect, effectOf}
+use Rattle.account.specs.Panel.{panel}
 use Rattle.account.specs.Places.{RuleAccount, accountOf}
 use Rattle.account.specs.Steps.{RuleEntry, entryOf, entriesOf, calledBy, stepOf}
 use Rattle.account.proofs.Panel.{sound}

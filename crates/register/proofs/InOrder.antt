@@ -13,7 +13,7 @@ use Rattle.rule.specs.Lists.{every}
 use Rattle.rule.specs.Rule as rule
 use Rattle.rule.specs.Order as rule-order
 use Rattle.rule.proofs.Lists.{and-left, and-right}
-use Rattle.account.specs.declared.State.{State}
+use Rattle.events.specs.declared.State.{State}
 use Rattle.account.specs.declared.Account.{Account}
 use Rattle.account.specs.declared.Answer.{Answer as StepAnswer}
 use Rattle.account.specs.declared.Answer.the-variants as Step′

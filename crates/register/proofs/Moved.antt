@@ -15,7 +15,7 @@ use borrow.Author.Tests.{ltb-false}
 use Rattle.rule.specs.Rule as rule
 use Rattle.rule.specs.Call.{refusal}
 use Rattle.rule.proofs.Refusals.{gives, request-refused, commit-refused, abort-refused}
-use Rattle.account.specs.declared.Event.{Event}
+use Rattle.events.specs.declared.Event.{Event}
 use Rattle.account.specs.declared.Account.{Account}
 use Rattle.account.specs.declared.Answer.{Answer as StepAnswer}
 use Rattle.account.specs.declared.Answer.the-variants as Step′

@@ -19,7 +19,7 @@ use Rattle.account.specs.declared.Entry.{Entry}
 use Rattle.account.specs.Steps.{RuleEntry, entryOf}
 use Rattle.layout.specs.Number.{numberAt}
 use Rattle.layout.specs.Fields.{Row, rowOf, thenOf, widthsOf, heading, numbersAt, written, total, lastAccount}
-use Rattle.layout.specs.Events.{eventOf}
+use Rattle.events.specs.Kinds.{eventOf}
 use Rattle.layout.proofs.Fields.{length-written, written-append}
 use Rattle.message.specs.declared.Heading.{Heading}
 use Rattle.message.specs.declared.Message.{Message}

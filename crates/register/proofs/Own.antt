@@ -11,15 +11,15 @@ use Rattle.rule.specs.Rule as rule
 use Rattle.rule.specs.Written.{Shape}
 use Rattle.rule.proofs.Order.{order-clauses}
 use Rattle.rule.proofs.Written.{step-shape}
-use Rattle.account.specs.declared.Event.{Event}
-use Rattle.account.specs.declared.Event.the-variants.{Open, Withdraw, Deposit, Close}
+use Rattle.events.specs.declared.Event.{Event}
+use Rattle.events.specs.declared.Event.the-variants.{Open, Withdraw, Deposit, Close}
 use Rattle.account.specs.Panel.{panel}
 use Rattle.account.specs.Places.{RuleAccount, listsOf}
 use Rattle.account.specs.Steps.{RuleEntry, entryOf}
 use Rattle.account.proofs.Kept.{order-lists}
 use Rattle.layout.specs.Number.{bytesOf}
 use Rattle.layout.specs.Fields.{rowOf, heading, written}
-use Rattle.layout.specs.Events.{eventKind, amountOf}
+use Rattle.events.specs.Kinds.{eventKind, amountOf}
 use Rattle.message.specs.declared.Heading.{Heading}
 use Rattle.message.specs.declared.Message.{Message}
 use Rattle.message.specs.declared.Message.the-variants.{Request, Commit, Abort}

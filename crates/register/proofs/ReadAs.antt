@@ -11,7 +11,7 @@ use lib.ListN.{length, getD}
 use borrow.Author.Tests.{eqb-true, eqb-false, ltb-true, ltb-false, leb-true, leb-false}
 use Rattle.layout.specs.Number.{numberAt}
 use Rattle.layout.specs.Fields.{rowOf, wholeOf}
-use Rattle.layout.specs.Events.{eventOf}
+use Rattle.events.specs.Kinds.{eventOf}
 use Rattle.message.specs.declared.Heading.{Heading}
 use Rattle.message.specs.declared.Message.{Message}
 use Rattle.message.specs.declared.Message.the-variants.{Request, Commit, Abort}

@@ -19,8 +19,8 @@ use Rattle.rule.specs.Step as rule-step
 use Rattle.rule.specs.Call as rule-call
 use Rattle.rule.proofs.Lists.{some-map}
 use Rattle.rule.proofs.Exact.{numbered}
-use Rattle.account.specs.declared.Event.{Event}
-use Rattle.account.specs.declared.State.{State}
+use Rattle.events.specs.declared.Event.{Event}
+use Rattle.events.specs.declared.State.{State}
 use Rattle.account.specs.declared.Decision.{Decision}
 use Rattle.account.specs.declared.Decision.the-variants.{Undecided, Committed}
 use Rattle.account.specs.declared.Slot.{Slot}
@@ -35,7 +35,7 @@ use Rattle.account.specs.Places.{decisionOf, slotOf, listsOf}
 use Rattle.account.specs.Order.{isUndecided, orderOf}
 use Rattle.account.specs.Steps.{given, refusedBy, calledBy, stepOf, toldOf, outlookOf}
 use Rattle.layout.specs.Number.{numberAt}
-use Rattle.layout.specs.Events.{eventOf}
+use Rattle.events.specs.Kinds.{eventOf}
 use Rattle.layout.specs.Answers.{Test, test, firstOf}
 use Rattle.message.specs.declared.Heading.{Heading}
 use Rattle.message.specs.declared.Message.{Message}

@@ -16,8 +16,8 @@ use Rattle.rule.specs.Call as rule-call
 use Rattle.rule.specs.Order as rule-order
 use Rattle.rule.specs.Filed.{messageThrough, entryThrough, answerThrough, accountThrough}
 use Rattle.rule.proofs.Filed.{never-looked}
-use Rattle.account.specs.declared.Event.{Event}
-use Rattle.account.specs.declared.State.{State}
+use Rattle.events.specs.declared.Event.{Event}
+use Rattle.events.specs.declared.State.{State}
 use Rattle.account.specs.declared.Account.{Account}
 use Rattle.account.specs.Panel.{panel}
 use Rattle.account.specs.Places.{RuleAccount, listsOf, accountOf}

@@ -12,8 +12,8 @@ use borrow.Author.Tests.{leb-true, ltb-false}
 use Rattle.rule.specs.Step.{Step, step}
 use Rattle.rule.specs.Call as rule-call
 use Rattle.rule.proofs.Lists.{and-right}
-use Rattle.account.specs.declared.Event.{Event}
-use Rattle.account.specs.declared.State.{State}
+use Rattle.events.specs.declared.Event.{Event}
+use Rattle.events.specs.declared.State.{State}
 use Rattle.account.specs.declared.Account.{Account}
 use Rattle.account.specs.Panel.{panel}
 use Rattle.account.specs.Places.{listsOf}

@@ -9,13 +9,13 @@ use lib.ListN.{length, drop, set, replicate}
 use Rattle.rule.specs.Call.{Answer, refused, taken, Called, call}
 use Rattle.rule.specs.Exact.{Numbered, Choices, Exact, Decided}
 use Rattle.rule.specs.Demand as rule
-use Rattle.account.specs.declared.Event.{Event}
-use Rattle.account.specs.declared.Event.the-variants.{Open}
-use Rattle.account.specs.declared.Life.the-variants.{New}
+use Rattle.events.specs.declared.Event.{Event}
+use Rattle.events.specs.declared.Event.the-variants.{Open}
+use Rattle.events.specs.declared.Life.the-variants.{New}
 use Rattle.account.specs.declared.Decision.the-variants.{Undecided}
 use Rattle.account.specs.declared.Slot.{Slot}
 use Rattle.account.specs.declared.Account.{Account}
-use Rattle.account.specs.declared.State.{State}
+use Rattle.events.specs.declared.State.{State}
 use Rattle.account.specs.Panel.{panel}
 use Rattle.account.specs.Table.{TableHolds, OutcomesOfTheTable}
 use Rattle.account.specs.Places.{RuleSlot, RuleAccount, listsOf, accountOf}

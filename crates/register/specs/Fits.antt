@@ -1,10 +1,10 @@
 -- Numbers that fit their bytes: of every event and commit that a message brings, and so of every entry (docs/REGISTER.md, 8.1 and 9.1).
 -- Assumes nothing.
 use Prim.Native.Nat.{ℕ, _<_, _≤_, _^_}
-use Rattle.account.specs.declared.Event.{Event}
-use Rattle.account.specs.declared.State.{State}
-use Rattle.account.specs.Panel.{limit}
-use Rattle.layout.specs.Events.{amountOf}
+use Rattle.events.specs.declared.Event.{Event}
+use Rattle.events.specs.declared.State.{State}
+use Rattle.events.specs.Events.{limit}
+use Rattle.events.specs.Kinds.{amountOf}
 
 -- each of these numbers has 4 bytes
 abbrev pub EventFits : ℕ → ℕ → Event → Type 0

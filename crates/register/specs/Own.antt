@@ -6,7 +6,7 @@ use mathlib.Core.List.{List, [], _∷_}
 use mathlib.Core.Option.{none}
 use lib.ListN.{getD, take, drop}
 use Rattle.rule.specs.Rule as rule
-use Rattle.account.specs.declared.Event.{Event}
+use Rattle.events.specs.declared.Event.{Event}
 use Rattle.layout.specs.Number.{AreBytes}
 use Rattle.message.specs.declared.Message.the-variants.{Request, Commit, Abort}
 use Rattle.register.specs.declared.Register.{Register}

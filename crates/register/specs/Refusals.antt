@@ -12,7 +12,7 @@ use lib.ListN.{length, getD, take}
 use Rattle.rule.specs.Lists.{some-of, keep}
 use Rattle.rule.specs.Outcome.{bit}
 use Rattle.rule.specs.Exact.{chosenState}
-use Rattle.account.specs.declared.State.{State}
+use Rattle.events.specs.declared.State.{State}
 use Rattle.account.specs.declared.Slot.{Slot}
 use Rattle.account.specs.declared.Account.{Account}
 use Rattle.account.specs.Panel.{panel}

@@ -6,8 +6,8 @@ use mathlib.Core.List.{[]}
 use lib.Dec.{ltb}
 use lib.ListN.{getD, set, replicate}
 use Rattle.rule.specs.Rule as rule
-use Rattle.account.specs.declared.Event.{Event}
-use Rattle.account.specs.declared.Life.the-variants.{New}
+use Rattle.events.specs.declared.Event.{Event}
+use Rattle.events.specs.declared.Life.the-variants.{New}
 use Rattle.account.specs.declared.Account.{Account}
 use Rattle.account.specs.declared.Called.{Called}
 use Rattle.account.specs.declared.Outlook.{Outlook}

@@ -10,7 +10,7 @@ use lib.ListN.{length, take, drop}
 use Rattle.rule.specs.Rule as rule
 use Rattle.rule.specs.Call as rule-call
 use Rattle.rule.specs.History as rule-history
-use Rattle.account.specs.declared.Event.{Event}
+use Rattle.events.specs.declared.Event.{Event}
 use Rattle.account.specs.declared.Told.{Told}
 use Rattle.account.specs.declared.Told.the-variants.{Accepted, Rejected, Held, Noted, Applied, Dropped}
 use Rattle.account.specs.declared.Entry.{Entry}

@@ -11,11 +11,11 @@ use lib.Dec.{leb, ltb}
 use lib.ListN.{length, drop, length-append}
 use lib.Seq.{take-at, drop-at}
 use Rattle.rule.specs.Lists.{every}
-use Rattle.account.specs.declared.Event.{Event}
-use Rattle.account.specs.declared.Event.the-variants.{Open, Withdraw, Deposit, Close}
+use Rattle.events.specs.declared.Event.{Event}
+use Rattle.events.specs.declared.Event.the-variants.{Open, Withdraw, Deposit, Close}
 use Rattle.account.specs.declared.Told.{Told}
 use Rattle.account.specs.declared.Told.the-variants.{Accepted, Rejected, Held, Noted, Applied, Dropped}
-use Rattle.layout.specs.Events.{amountOf}
+use Rattle.events.specs.Kinds.{amountOf}
 use Rattle.layout.specs.Answers.{wroteOver}
 use Rattle.layout.proofs.Answers.{wrote-stays, cond-stays}
 use Rattle.text.specs.Text.{decimalIn, decimal, nameOf, eventName, thenFields, spaced, lineOf, longestLine, writeLineOf}

@@ -10,7 +10,7 @@ use Rattle.account.specs.Order.{orderOf}
 use Rattle.account.specs.Panel.{effectOf}
 use Rattle.account.specs.Places.{listsOf, accountOf}
 use Rattle.account.specs.Steps.{entriesOf, stepOf}
-use Rattle.layout.specs.Events.{eventOf}
+use Rattle.events.specs.Kinds.{eventOf}
 use Rattle.layout.specs.Fields.{written, numbersAt, rowOf}
 use Rattle.layout.specs.Number.{bytesOf, numberAt}
 use Rattle.message.specs.Answers.{readOf}

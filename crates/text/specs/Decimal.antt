@@ -7,7 +7,7 @@ use mathlib.Core.List.{List, [], _∷_}
 use lib.Dec.{leb}
 use lib.ListN.{length, getD}
 use Rattle.rule.specs.Lists.{every}
-use Rattle.account.specs.declared.Event.the-variants.{Withdraw}
+use Rattle.events.specs.declared.Event.the-variants.{Withdraw}
 use Rattle.account.specs.declared.Told.the-variants.{Accepted}
 use Rattle.account.specs.declared.Entry.{Entry}
 use Rattle.text.specs.Text.{decimal, lineOf}

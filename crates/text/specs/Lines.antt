@@ -9,8 +9,8 @@ use mathlib.Core.Option.{none}
 use lib.Dec.{leb, ltb}
 use lib.ListN.{length, take, drop}
 use Rattle.rule.specs.Lists.{every}
-use Rattle.account.specs.declared.Event.{Event}
-use Rattle.account.specs.declared.Event.the-variants.{Open, Withdraw, Deposit, Close}
+use Rattle.events.specs.declared.Event.{Event}
+use Rattle.events.specs.declared.Event.the-variants.{Open, Withdraw, Deposit, Close}
 use Rattle.account.specs.declared.Told.{Told}
 use Rattle.account.specs.declared.Entry.{Entry}
 use Rattle.layout.specs.Answers.{given, Wrote, test, firstOf, Stays}

@@ -3,13 +3,13 @@ ghost use mathlib.Core.List.{[], _∷_};
 ghost use mathlib.Core.Path.{_≡_};
 ghost use Prim.Native.Nat.{_+_, _≤_, _<_};
 ghost use lib.ListN.{length, take};
-ghost use Rattle.layout.specs.Events.{amountOf};
+ghost use Rattle.events.specs.Kinds.{amountOf};
 ghost use Rattle.text.specs.Text.{decimalIn, decimal, eventName, thenFields, spaced, lineOf, longestLine, writeLineOf, Put, farthest};
 use crate::words;
 use crate::words::Word;
 use account::Entry;
-use account::Event;
 use account::Told;
+use events::Event;
 use layout::Writing;
 
 // Writes the line of an entry of that account to the beginning of a buffer.
@@ -76,7 +76,7 @@ fn put_event(buffer: &mut [u8], at: usize, event: Event) -> usize
 {
     layout::put1(buffer, at, b' ');
     let next = put_word(buffer, at + 1, words::event_name(event));
-    put_number(buffer, next, layout::event_amount(event))
+    put_number(buffer, next, event.amount())
 }
 
 // Stores a space and a number from `at` on.

@@ -2,8 +2,9 @@
 ghost use mathlib.Core.Path.{_≡_};
 ghost use Rattle.text.specs.Text.{nameOf, eventName};
 ghost use Rattle.text.specs.Words.{wordOf};
-use account::Event;
 use account::Told;
+use events::Event;
+use events::Event;
 
 // A name of at most eight letters; the places after it hold spaces.
 pub(crate) struct Word {

@@ -6,8 +6,8 @@ use Rattle.message.specs.Bytes.{messageBy}
 use Rattle.message.proofs.message_of.Statement.{statement}
 use Rattle.message.proofs.message_of.Tie as tie
 
-event-of-requires : tie.Need-event-of-requires
-event-of-requires c κs = search needs
+of-requires : tie.Need-of-requires
+of-requires c κs = search needs
 
 returns : tie.Need-returns
 unfolding messageBy
@@ -21,7 +21,7 @@ returns-3 : tie.Need-returns-3
 unfolding messageBy
 returns-3 c =
     let k = c .before .before .args .kind in
-    rw (ne-eqb k 5 (c .before .match .rest .0 .1), ne-eqb k 6 (c .before .match .rest .1), c .event-of .ensures)
+    rw (ne-eqb k 5 (c .before .match .rest .0 .1), ne-eqb k 6 (c .before .match .rest .1), c .of .ensures)
 
 pub message-of-spec : {M : Type 1} → statement M
-message-of-spec = tie.close (tie.spec event-of-requires returns returns-2 returns-3)
+message-of-spec = tie.close (tie.spec of-requires returns returns-2 returns-3)

@@ -4,14 +4,14 @@ use borrow.Author.Needs.{needs}
 use Rattle.account.proofs.order.is_blank.Statement.{statement}
 use Rattle.account.proofs.order.is_blank.Tie as tie
 
-is-open-zero-requires : tie.Need-is-open-zero-requires
-is-open-zero-requires c κs = search needs
+is-blank-requires : tie.Need-is-blank-requires
+is-blank-requires c κs = search needs
 
 is-undecided-requires : tie.Need-is-undecided-requires
 is-undecided-requires c κs = search needs
 
 returns : tie.Need-returns
-returns c = rw (c .before .is-open-zero .ensures, c .is-undecided .ensures)
+returns c = rw (c .before .is-blank .ensures, c .is-undecided .ensures)
 
 pub is-blank-spec : {M : Type 1} → statement M
-is-blank-spec = tie.close (tie.spec is-open-zero-requires is-undecided-requires returns)
+is-blank-spec = tie.close (tie.spec is-blank-requires is-undecided-requires returns)

@@ -1,8 +1,8 @@
--- `account::weighing::decide` meets its contract: with no free place the request is held, else the ends decide.
+-- `account::weighing::decide` meets its contract: with no free place the request is held, else what is known of the outcomes decides.
 -- Assumes nothing.
 use native.Mathlib.Omega.{arith}
 use borrow.Author.Needs.{needs}
-use Rattle.account.proofs.Decided.{decided-full, decided-ends}
+use Rattle.account.proofs.Decided.{decided-full, decided-known}
 use Rattle.account.proofs.weighing.decide.Statement.{statement}
 use Rattle.account.proofs.weighing.decide.Tie as tie
 
@@ -27,7 +27,7 @@ returns-2 : tie.Need-returns-2
 returns-2 c =
     let a = c .before .before .before .before .before .before .args in
     let w = c .before .before .before .before .walk in
-    rw (c .verdict-of .ensures, c .before .before .every .ensures, c .before .some .ensures) (decided-ends (a .e) (a .s) (a .progressing) (a .progress) (omega arith) (omega arith) (w .result) (w .ensures))
+    rw (c .verdict-of .ensures, c .before .before .every .ensures, c .before .some .ensures) (decided-known (a .e) (a .s) (a .progressing) (a .progress) (omega arith) (omega arith) (w .result) (w .ensures))
 
 pub decide-spec : {M : Type 1} → statement M
 decide-spec =

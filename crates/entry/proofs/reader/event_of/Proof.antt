@@ -2,7 +2,7 @@
 -- Assumes nothing.
 use native.Mathlib.Omega.{arith}
 use borrow.Author.Tests.{ne-eqb}
-use Rattle.layout.specs.Events.{eventOf}
+use Rattle.events.specs.Kinds.{eventOf}
 use borrow.Author.Needs.{needs}
 use Rattle.entry.proofs.reader.event_of.Statement.{statement}
 use Rattle.entry.proofs.reader.event_of.Tie as tie

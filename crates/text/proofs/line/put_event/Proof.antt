@@ -4,7 +4,7 @@ use Prim.Native.Nat.{_+_}
 use native.Mathlib.Omega.{arith}
 use mathlib.Core.List.{[], _∷_}
 use borrow.Author.Needs.{needs}
-use Rattle.layout.specs.Events.{amountOf}
+use Rattle.events.specs.Kinds.{amountOf}
 use Rattle.text.specs.Text.{decimal, eventName}
 use Rattle.text.proofs.Texts.{put-field, put-fields, put-name}
 use Rattle.text.proofs.Lines.{event-length}
@@ -25,8 +25,8 @@ put-word-requires c κs =
     let start = c .before .before .before .before .before .before .before in
     (omega (arith, start .pre), rw (c .event-name .ensures) (event-length (start .args .event)))
 
-event-amount-requires : tie.Need-event-amount-requires
-event-amount-requires c κs = search needs
+amount-requires : tie.Need-amount-requires
+amount-requires c κs = search needs
 
 put-number-requires : tie.Need-put-number-requires
 put-number-requires c κs = search needs
@@ -37,8 +37,8 @@ same-length c = search needs
 returns : tie.Need-returns
 returns c =
     let at-put-number = c .before .before in
-    let at-event-amount = at-put-number .before in
-    let at-put-word = at-event-amount .before .before .before .before in
+    let at-amount = at-put-number .before in
+    let at-put-word = at-amount .before .before .before .before in
     let at-event-name = at-put-word .before in
     let at-put1 = at-event-name .before .before .before .before in
     let start = at-put1 .before .before .before in
@@ -50,7 +50,7 @@ returns c =
     let named = put-name (at-event-name .event-name .result) name (a .at + 1) 8 (at-put-word .put-word .result) (at-put1 .put1 .last .0) l₂ (at-event-name .event-name .ensures) (at-put-word .put-word .ensures) in
     put-fields (name ∷ []) (amount ∷ []) (a .at) 9 11 (at-put-word .put-word .result) (at-put-number .put-number .result) l l₂ (at-put-number .put-number .last .0)
     (put-field name (a .at) 8 (at-put-word .put-word .result) l (at-put1 .put1 .last .0) l₂ (at-put1 .put1 .ensures) named)
-    (rw (at-event-amount .event-amount .ensures) at (at-put-number .put-number .ensures))
+    (rw (at-amount .amount .ensures) at (at-put-number .put-number .ensures))
 
 pub put-event-spec : {M : Type 1} → statement M
 put-event-spec =
@@ -60,7 +60,7 @@ put-event-spec =
     add-put-word
     event-name-requires
     put-word-requires
-    event-amount-requires
+    amount-requires
     put-number-requires
     same-length
     returns)

@@ -3,7 +3,7 @@
 use native.Mathlib.Omega.{arith}
 use mathlib.Core.List.{[], _∷_}
 use borrow.Author.Needs.{needs}
-use Rattle.layout.specs.Events.{amountOf}
+use Rattle.events.specs.Kinds.{amountOf}
 use Rattle.text.specs.Text.{decimal, eventName, spaced}
 use Rattle.text.proofs.Texts.{put-nothing, put-room}
 use Rattle.text.proofs.line.put_then.Statement.{statement}

@@ -2,7 +2,7 @@
 -- Assumes nothing.
 use mathlib.Core.List.{[], _∷_}
 use borrow.Author.Needs.{needs}
-use Rattle.layout.specs.Events.{amountOf}
+use Rattle.events.specs.Kinds.{amountOf}
 use Rattle.text.specs.Text.{decimal, eventName}
 use Rattle.text.proofs.Texts.{put-fields}
 use Rattle.text.proofs.line.put_with.Statement.{statement}

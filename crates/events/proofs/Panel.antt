@@ -1,0 +1,64 @@
+-- The first panel's rule: its states in order are just those that runs of its events lead to, and where every guard holds its outcomes are those of the table's effects.
+-- Assumes nothing.
+use Prim.Native.Nat.{ℕ, _+_, _-_, _≤_}
+use mathlib.Core.Path.{_≡_, refl, sym, _∙_, ap}
+use mathlib.Core.Bool.{Bool, true, cond, _&&_}
+use mathlib.Core.List.{List, [], _∷_}
+use native.Mathlib.Omega.{arith}
+use lib.Dec.{leb, eqb}
+use borrow.Author.Tests.{leb-true, le-leb, eqb-true}
+use Rattle.rule.specs.Rule.{Slot}
+use Rattle.rule.specs.Outcome.{outcome}
+use Rattle.rule.specs.Run.{run, GuardsHold}
+use Rattle.rule.specs.Order.{Sound}
+use Rattle.rule.proofs.Lists.{and-left, and-right}
+use Rattle.rule.proofs.Safe.{Safe, outcome-agree}
+use Rattle.events.specs.declared.Event.{Event}
+use Rattle.events.specs.declared.Event.the-variants.{Open, Withdraw, Deposit, Close}
+use Rattle.events.specs.declared.Life.{Life}
+use Rattle.events.specs.declared.Life.the-variants.{New, Opened, Closed}
+use Rattle.events.specs.declared.State.{State}
+use Rattle.events.specs.Events.{limit, isNew, isOpened, guardOf, tableEffect, effectOf, stateFits}
+use Rattle.events.specs.Panel.{firstPanel, firstTable}
+use Rattle.events.proofs.Guards.{effect-table}
+
+-- a balance within the limit, on an account that is open
+opened-fits : (l : Bool) (b : ℕ) → l ≡ true → b ≤ limit → (leb b limit && cond l true (eqb b 0)) ≡ true
+opened-fits l b h k = rw (h, le-leb b limit k)
+
+table-fits : (e : Event) (s : State) → guardOf e s ≡ true → stateFits s ≡ true → stateFits (tableEffect e s) ≡ true
+table-fits (Open a) s g h = opened-fits true a refl (leb-true a limit (and-right (isNew (s .life)) (leb a limit) g))
+table-fits (Withdraw a) s g h =
+    opened-fits (isOpened (s .life)) (s .balance - a)
+    (and-left (isOpened (s .life)) (leb 1 a) (and-left (isOpened (s .life) && leb 1 a) (leb a (s .balance)) g))
+    (omega (arith, leb-true (s .balance) limit (and-left (leb (s .balance) limit) (cond (isOpened (s .life)) true (eqb (s .balance) 0)) h)))
+table-fits (Deposit a) s g h =
+    opened-fits (isOpened (s .life)) (s .balance + a)
+    (and-left (isOpened (s .life)) (leb 1 a) (and-left (isOpened (s .life) && leb 1 a) (leb (s .balance + a) limit) g))
+    (leb-true (s .balance + a) limit (and-right (isOpened (s .life) && leb 1 a) (leb (s .balance + a) limit) g))
+table-fits Close s g h = refl
+
+module _ (room bench : ℕ) where
+  -- a run that leads to each state in order: none, an Open, an Open and a Close
+  state-run : (life : Life) (b : ℕ) → stateFits (record { life = life; balance = b }) ≡ true
+      → (es : List Event) × GuardsHold (firstPanel room bench) es (firstPanel room bench .fresh) × (run (firstPanel room bench) es (firstPanel room bench .fresh) ≡ record { life = life; balance = b })
+  unfolding effectOf
+  state-run New b h = ([], tt, ap (λ (n : ℕ). record { life = New; balance = n }) (sym (eqb-true b 0 (and-right (leb b limit) (eqb b 0) h))))
+  state-run Opened b h =
+      let fits = and-left (leb b limit) true h in
+      (Open b ∷ [], (fits, tt), rw fits)
+  state-run Closed b h =
+      (Open 0 ∷ Close ∷ [], (refl, (refl, tt)), ap (λ (n : ℕ). record { life = Closed; balance = n }) (sym (eqb-true b 0 (and-right (leb b limit) (eqb b 0) h))))
+
+  pub sound : Sound (firstPanel room bench)
+  sound =
+      record {
+        fresh = refl;
+        kept = λ e s g h. ap stateFits (effect-table e s g) ∙ table-fits e s g h;
+        reachable = λ s h. state-run (s .life) (s .balance) h;
+      }
+
+  -- the outcomes of events that are safe are those of the table's effects
+  pub outcome-table : {G : Type 0} (xs : List (Slot G Event)) (n : ℕ) (s : State) → Safe (firstPanel room bench) xs s
+      → outcome (firstTable room bench) xs n s ≡ outcome (firstPanel room bench) xs n s
+  outcome-table xs n s h = outcome-agree (firstPanel room bench) (firstTable room bench) (λ e t g. sym (effect-table e t g)) xs n s h

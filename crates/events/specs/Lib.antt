@@ -1,0 +1,7 @@
+pub mod Events
+pub mod Kinds
+pub mod Panel
+pub mod Table
+pub mod Condition
+pub mod Range
+pub mod Glance

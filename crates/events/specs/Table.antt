@@ -1,0 +1,73 @@
+-- The table of events (3.1) row by row, over all amounts and balances and every life, in plain numbers: each guard exactly if, each effect as an equation; what else the first
+-- panel's rule has; the kinds and amounts (9.2) and the blank's event (2.5).
+-- Assumes nothing.
+use Prim.Native.Nat.{ℕ, _+_, _-_, _≤_}
+use mathlib.Core.Path.{_≡_}
+use mathlib.Core.Logic.{_↔_}
+use mathlib.Core.Bool.{true, false, _&&_}
+use mathlib.Core.List.{List, [], _∷_, map}
+use lib.Dec.{leb}
+use Rattle.events.specs.declared.Event.{Event}
+use Rattle.events.specs.declared.Event.the-variants.{Open, Withdraw, Deposit, Close}
+use Rattle.events.specs.declared.Life.the-variants.{New, Opened, Closed}
+use Rattle.events.specs.declared.State.{State}
+use Rattle.events.specs.Events.{isBlankEvent}
+use Rattle.events.specs.Kinds.{eventKind, amountOf, eventOf}
+use Rattle.events.specs.Panel.{firstPanel, firstTable}
+
+module _ (room bench : ℕ) (s : State) (a : ℕ) where
+  -- the column of guards
+  pub record Guards : Type 0 where
+    pub opens : (firstPanel room bench .guard (Open a) s ≡ true) ↔ ((s .life ≡ New) × (a ≤ 1_000_000))
+    pub withdraws : (firstPanel room bench .guard (Withdraw a) s ≡ true) ↔ ((s .life ≡ Opened) × (1 ≤ a) × (a ≤ s .balance))
+    pub deposits : (firstPanel room bench .guard (Deposit a) s ≡ true) ↔ ((s .life ≡ Opened) × (1 ≤ a) × (s .balance + a ≤ 1_000_000))
+    pub closes : (firstPanel room bench .guard Close s ≡ true) ↔ (s .life ≡ Opened)
+
+  -- the column of effects, where the guard holds; where it does not, nothing changes
+  pub record Effects : Type 0 where
+    pub opens : firstPanel room bench .guard (Open a) s ≡ true → firstPanel room bench .effect (Open a) s ≡ record { life = Opened; balance = a }
+    pub withdraws : firstPanel room bench .guard (Withdraw a) s ≡ true → firstPanel room bench .effect (Withdraw a) s ≡ record { life = Opened; balance = s .balance - a }
+    pub deposits : firstPanel room bench .guard (Deposit a) s ≡ true → firstPanel room bench .effect (Deposit a) s ≡ record { life = Opened; balance = s .balance + a }
+    pub closes : firstPanel room bench .guard Close s ≡ true → firstPanel room bench .effect Close s ≡ record { life = Closed; balance = 0 }
+    pub otherwise : (e : Event) → (firstPanel room bench .guard e s ≡ true → ⊥) → firstPanel room bench .effect e s ≡ s
+
+  -- the same column as the table has it, whatever the guard says
+  pub record TableEffects : Type 0 where
+    pub opens : firstTable room bench .effect (Open a) s ≡ record { life = Opened; balance = a }
+    pub withdraws : firstTable room bench .effect (Withdraw a) s ≡ record { life = s .life; balance = s .balance - a }
+    pub deposits : firstTable room bench .effect (Deposit a) s ≡ record { life = s .life; balance = s .balance + a }
+    pub closes : firstTable room bench .effect Close s ≡ record { life = Closed; balance = 0 }
+
+  -- what else the rule has: a new account, what an applied entry shows, the states in order, the places
+  pub record Fields : Type 0 where
+    pub fresh : firstPanel room bench .fresh ≡ record { life = New; balance = 0 }
+    pub shown : firstPanel room bench .shown s ≡ s .balance
+    pub fits : (firstPanel room bench .fits s ≡ true) ↔ ((s .balance ≤ 1_000_000) × ((s .life ≡ Opened → ⊥) → s .balance ≡ 0))
+    pub room′ : firstPanel room bench .room ≡ room
+    pub bench′ : firstPanel room bench .bench ≡ bench
+
+  pub record Table : Type 0 where
+    pub guards : Guards
+    pub effects : Effects
+    pub tableEffects : TableEffects
+    pub fields : Fields
+
+abbrev pub TableHolds : Type 0
+TableHolds = (room bench : ℕ) (s : State) (a : ℕ) → Table room bench s a
+
+-- the four events in the order of their kinds 1 to 4; a close has the amount 0
+abbrev pub events : (amount : ℕ) → List Event
+events amount = Open amount ∷ Withdraw amount ∷ Deposit amount ∷ Close ∷ []
+
+pub record Kinds (amount : ℕ) : Type 0 where
+  pub kinds : map eventKind (events amount) ≡ 1 ∷ 2 ∷ 3 ∷ 4 ∷ []
+  pub amounts : map amountOf (events amount) ≡ amount ∷ amount ∷ amount ∷ 0 ∷ []
+  pub back : map (λ (kind : ℕ). eventOf kind amount) (1 ∷ 2 ∷ 3 ∷ 4 ∷ []) ≡ events amount
+  pub other : (kind : ℕ) → leb 1 kind && leb kind 3 ≡ false → eventOf kind amount ≡ Close
+
+abbrev pub KindsHold : Type 0
+KindsHold = (amount : ℕ) → Kinds amount
+
+-- the blank's event is Open 0 and no other
+abbrev pub BlankIsOpenZero : Type 0
+BlankIsOpenZero = (e : Event) → (isBlankEvent e ≡ true) ↔ (e ≡ Open 0)
