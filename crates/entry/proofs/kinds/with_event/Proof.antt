@@ -4,17 +4,17 @@ use borrow.Author.Needs.{needs}
 use Rattle.entry.proofs.kinds.with_event.Statement.{statement}
 use Rattle.entry.proofs.kinds.with_event.Tie as tie
 
-event-kind-requires : tie.Need-event-kind-requires
-event-kind-requires c κs = search needs
+kind-requires : tie.Need-kind-requires
+kind-requires c κs = search needs
 
 cast-t4 : tie.Need-cast-t4
 cast-t4 c = search needs
 
-event-amount-requires : tie.Need-event-amount-requires
-event-amount-requires c κs = search needs
+amount-requires : tie.Need-amount-requires
+amount-requires c κs = search needs
 
 returns : tie.Need-returns
-returns c = rw (c .event-amount .ensures, c .before .event-kind .ensures)
+returns c = rw (c .amount .ensures, c .before .kind .ensures)
 
 pub with-event-spec : {M : Type 1} → statement M
-with-event-spec = tie.close (tie.spec event-kind-requires cast-t4 event-amount-requires returns)
+with-event-spec = tie.close (tie.spec kind-requires cast-t4 amount-requires returns)

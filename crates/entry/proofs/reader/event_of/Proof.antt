@@ -7,14 +7,14 @@ use borrow.Author.Needs.{needs}
 use Rattle.entry.proofs.reader.event_of.Statement.{statement}
 use Rattle.entry.proofs.reader.event_of.Tie as tie
 
-cast-event-of : tie.Need-cast-event-of
-cast-event-of c = search needs
+cast-of : tie.Need-cast-of
+cast-of c = search needs
 
-event-of-requires : tie.Need-event-of-requires
-event-of-requires c κs = search needs
+of-requires : tie.Need-of-requires
+of-requires c κs = search needs
 
-event-of-requires-2 : tie.Need-event-of-requires-2
-event-of-requires-2 c κs = search needs
+of-requires-2 : tie.Need-of-requires-2
+of-requires-2 c κs = search needs
 
 returns : tie.Need-returns
 returns c = search needs
@@ -23,8 +23,8 @@ returns-2 : tie.Need-returns-2
 unfolding eventOf
 returns-2 c =
     let kind = c .before .before .args .kind in
-    rw (ne-eqb kind 1 (omega arith), ne-eqb kind 2 (omega arith), ne-eqb kind 3 (omega arith)) (c .event-of2 .ensures)
+    rw (ne-eqb kind 1 (omega arith), ne-eqb kind 2 (omega arith), ne-eqb kind 3 (omega arith)) (c .of2 .ensures)
 
 pub event-of-spec : {M : Type 1} → statement M
 event-of-spec =
-    tie.close (tie.spec cast-event-of event-of-requires event-of-requires-2 returns returns-2)
+    tie.close (tie.spec cast-of of-requires of-requires-2 returns returns-2)
