@@ -7,7 +7,7 @@ use Rattle.rule.specs.Outcome.{outcomes}
 use Rattle.rule.specs.Step.{settle, asked, committing, aborting}
 use Rattle.rule.specs.Weigh.{weigh, decide}
 use Rattle.account.specs.Order.{orderOf}
-use Rattle.account.specs.Panel.{effectOf}
+use Rattle.events.specs.Events.{effectOf}
 use Rattle.account.specs.Places.{listsOf, accountOf}
 use Rattle.account.specs.Steps.{entriesOf, stepOf}
 use Rattle.events.specs.Kinds.{eventOf}

@@ -4,7 +4,6 @@ ghost use Rattle.text.specs.Text.{nameOf, eventName};
 ghost use Rattle.text.specs.Words.{wordOf};
 use account::Told;
 use events::Event;
-use events::Event;
 
 // A name of at most eight letters; the places after it hold spaces.
 pub(crate) struct Word {
