@@ -1,4 +1,4 @@
--- The whole length of each kind of entry, as the code finds it: kinds 17 to 19 by their range, 20, 21 and 22 by themselves, and the others.
+-- The whole length of the kinds of entry: 17 to 19 by their range, and those that are none of 17 to 22.
 -- Assumes nothing.
 use Prim.Native.Nat.{ℕ, _≤_, _<_}
 use native.Mathlib.Omega.{arith}

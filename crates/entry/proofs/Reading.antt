@@ -12,7 +12,7 @@ use lib.ListN.{length, getD, drop}
 use Rattle.account.specs.declared.Entry.{Entry}
 use Rattle.layout.specs.Number.{numberAt}
 use Rattle.layout.specs.Fields.{Row, rowOf, wholeOf, thenOf, widthsOf, numbersAt, lastAccount}
-use Rattle.layout.specs.Shapes.{wide, shapeOf}
+use Rattle.layout.specs.Shapes.{bytesIn, shapeOf}
 use Rattle.events.specs.Kinds.{eventOf}
 use Rattle.layout.proofs.Tables.{present, unknown}
 use Rattle.layout.proofs.Shapes.{found-holds, padded-read, padded-at}
@@ -105,7 +105,7 @@ module _ (bytes : List ℕ) (kind whole : ℕ) (k : kind ≡ numberAt bytes 0 1)
       ∙ rw (fits-read bytes kind p, told-read bytes kind p k, w)
 
   -- the same by the numbers that the code reads: those of the row, and 0 in the places behind them
-  module _ (z : whole ≡ 0 → ⊥) (h : whole ≤ length bytes) (numbers : List ℕ) (n : numbers ≡ numbersAt (map wide (shapeOf (rowOf entryRows kind) .widths)) bytes 0) where
+  module _ (z : whole ≡ 0 → ⊥) (h : whole ≤ length bytes) (numbers : List ℕ) (n : numbers ≡ numbersAt (map bytesIn (shapeOf (rowOf entryRows kind) .widths)) bytes 0) where
     positive : 0 < wholeOf (rowOf entryRows kind)
     positive = rw (← w) (omega arith)
 

@@ -17,7 +17,7 @@ use Rattle.account.specs.declared.Told.{Told}
 use Rattle.account.specs.declared.Told.the-variants.{Accepted}
 use Rattle.account.specs.declared.Entry.{Entry}
 use Rattle.layout.specs.Fields.{rowOf, widthsOf, written}
-use Rattle.layout.specs.Shapes.{wide, padded, shapeOf}
+use Rattle.layout.specs.Shapes.{bytesIn, padded, shapeOf}
 use Rattle.layout.proofs.Stores.{sets-more}
 use Rattle.layout.proofs.Fields.{length-written}
 use Rattle.layout.proofs.Shapes.{found-holds, padded-written}
@@ -46,7 +46,7 @@ wholes-append [] ys = sym (zero-add (wholesOf ys))
 wholes-append (x ∷ xs) ys = rw (add-assoc, wholes-append xs ys)
 
 -- stored by the row of its kind, places behind it and all, an entry is its bytes
-pub row-bytes : (account : ℕ) (e : Entry) → written (map wide (shapeOf (rowOf entryRows (kindOf (e .told))) .widths)) (padded (numbersOf account e)) ≡ bytesOfEntry account e
+pub row-bytes : (account : ℕ) (e : Entry) → written (map bytesIn (shapeOf (rowOf entryRows (kindOf (e .told))) .widths)) (padded (numbersOf account e)) ≡ bytesOfEntry account e
 unfolding bytesOfEntry lengthOfTold
 row-bytes account e =
     let told = e .told in

@@ -14,29 +14,29 @@ use lib.ListN.{length, getD, take, drop, set, replicate, length-map, List·getD-
 use lib.Seq.{sets, drop-length, getD-append-add}
 use Rattle.layout.specs.Number.{bytesOf, numberAt}
 use Rattle.layout.specs.Fields.{Row, rowOf, wholeOf, widthsOf, heading, written, numbersAt, total}
-use Rattle.layout.specs.Shapes.{wide, padded, shapeOf}
+use Rattle.layout.specs.Shapes.{bytesIn, padded, shapeOf}
 use Rattle.layout.proofs.Fields.{put-one, read-one, written-append}
 
-pub wide-four : (width : ℕ) → (width ≡ 0 → ⊥) → (width ≡ 1 → ⊥) → (width ≡ 2 → ⊥) → wide width ≡ 4
-wide-four width h k m = rw (ne-eqb width 0 h, ne-eqb width 1 k, ne-eqb width 2 m)
+pub four-bytes : (width : ℕ) → (width ≡ 0 → ⊥) → (width ≡ 1 → ⊥) → (width ≡ 2 → ⊥) → bytesIn width ≡ 4
+four-bytes width h k m = rw (ne-eqb width 0 h, ne-eqb width 1 k, ne-eqb width 2 m)
 
 -- after the last place nothing is left
-pub none-left : (widths : List ℕ) (i : ℕ) → length widths ≡ i → drop i (map wide widths) ≡ []
-none-left widths i h = rw (← h, ← length-map widths wide) (drop-length (map wide widths))
+pub none-left : (widths : List ℕ) (i : ℕ) → length widths ≡ i → drop i (map bytesIn widths) ≡ []
+none-left widths i h = rw (← h, ← length-map widths bytesIn) (drop-length (map bytesIn widths))
 
 -- one step of the loops that store and read a row
 module _ (widths ns : List ℕ) where
-  pub put-place : (l l′ : List ℕ) (to i width : ℕ) → i < length widths → i < length ns → width ≡ wide (getD widths i 0)
-      → l′ ≡ sets l to (bytesOf (wide (getD widths i 0)) (getD ns i 0))
-      → sets l′ (to + width) (written (drop (i + 1) (map wide widths)) (drop (i + 1) ns)) ≡ sets l to (written (drop i (map wide widths)) (drop i ns))
+  pub put-place : (l l′ : List ℕ) (to i width : ℕ) → i < length widths → i < length ns → width ≡ bytesIn (getD widths i 0)
+      → l′ ≡ sets l to (bytesOf (bytesIn (getD widths i 0)) (getD ns i 0))
+      → sets l′ (to + width) (written (drop (i + 1) (map bytesIn widths)) (drop (i + 1) ns)) ≡ sets l to (written (drop i (map bytesIn widths)) (drop i ns))
   put-place l l′ to i width h k w e =
-      rw (e, ← w) (put-one (map wide widths) ns l to i width (rw length-map h) k (w ∙ sym (List·getD-map wide widths i 0)))
+      rw (e, ← w) (put-one (map bytesIn widths) ns l to i width (rw length-map h) k (w ∙ sym (List·getD-map bytesIn widths i 0)))
 
-  pub read-place : (bytes : List ℕ) (from i width number : ℕ) → i < length widths → i < length ns → width ≡ wide (getD widths i 0)
-      → number ≡ numberAt bytes from (wide (getD widths i 0))
-      → take (i + 1) (set ns i number) ++ numbersAt (drop (i + 1) (map wide widths)) bytes (from + width) ≡ take i ns ++ numbersAt (drop i (map wide widths)) bytes from
+  pub read-place : (bytes : List ℕ) (from i width number : ℕ) → i < length widths → i < length ns → width ≡ bytesIn (getD widths i 0)
+      → number ≡ numberAt bytes from (bytesIn (getD widths i 0))
+      → take (i + 1) (set ns i number) ++ numbersAt (drop (i + 1) (map bytesIn widths)) bytes (from + width) ≡ take i ns ++ numbersAt (drop i (map bytesIn widths)) bytes from
   read-place bytes from i width number h k w e =
-      rw (e, ← w) (read-one (map wide widths) ns bytes from i width (rw length-map h) k (w ∙ sym (List·getD-map wide widths i 0)))
+      rw (e, ← w) (read-one (map bytesIn widths) ns bytes from i width (rw length-map h) k (w ∙ sym (List·getD-map bytesIn widths i 0)))
 
 -- ---- places behind a row
 
@@ -96,15 +96,15 @@ shape-whole (some r) = refl
 -- the widths of every row make up its length, and are such as count as they are
 pub record Hold (rows : List Row) : Type 0 where
   pub sums : map (λ (r : Row). total (heading ++ r .then)) rows ≡ map (λ (r : Row). r .whole) rows
-  pub widths : map (λ (r : Row). map wide (r .then)) rows ≡ map (λ (r : Row). r .then) rows
+  pub widths : map (λ (r : Row). map bytesIn (r .then)) rows ≡ map (λ (r : Row). r .then) rows
 
 pub record Held (found : Option Row) : Type 0 where
   pub sum : total (widthsOf found) ≡ wholeOf found
-  pub widths : map wide (shapeOf found .widths) ≡ padded (widthsOf found)
+  pub widths : map bytesIn (shapeOf found .widths) ≡ padded (widthsOf found)
 
-wide-zeros : (k : ℕ) → map wide (replicate k 0) ≡ replicate k 0
-wide-zeros zero = refl
-wide-zeros (suc k) = ap (_∷_ 0) (wide-zeros k)
+bytes-in-zeros : (k : ℕ) → map bytesIn (replicate k 0) ≡ replicate k 0
+bytes-in-zeros zero = refl
+bytes-in-zeros (suc k) = ap (_∷_ 0) (bytes-in-zeros k)
 
 -- so it is with the row that was found
 pub found-holds : (rows : List Row) (kind : ℕ) → Hold rows → 0 < wholeOf (rowOf rows kind) → Held (rowOf rows kind)
@@ -114,6 +114,6 @@ found-holds (r ∷ rows) kind h p = go (eqb kind (r .kind)) (found-holds rows ki
   where
     go : (b : Bool) → (0 < wholeOf (rowOf rows kind) → Held (rowOf rows kind)) → 0 < wholeOf (cond b (some r) (rowOf rows kind)) → Held (cond b (some r) (rowOf rows kind))
     go true rest p =
-        let own : map wide (r .then) ≡ r .then = cc (h .widths) in
-        record { sum = cc (h .sums); widths = rw (map-append, own, wide-zeros) }
+        let own : map bytesIn (r .then) ≡ r .then = cc (h .widths) in
+        record { sum = cc (h .sums); widths = rw (map-append, own, bytes-in-zeros) }
     go false rest p = rest p

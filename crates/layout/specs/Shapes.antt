@@ -10,8 +10,8 @@ use Rattle.layout.specs.declared.Shape.{Shape}
 use Rattle.layout.specs.Fields.{Row, heading}
 
 -- a number has 1, 2 or 4 bytes, and none where its width is 0; any other width counts as 4
-abbrev pub wide : (width : ℕ) → ℕ
-wide width = cond (eqb width 0) 0 (cond (eqb width 1) 1 (cond (eqb width 2) 2 4))
+abbrev pub bytesIn : (width : ℕ) → ℕ
+bytesIn width = cond (eqb width 0) 0 (cond (eqb width 1) 1 (cond (eqb width 2) 2 4))
 
 -- the places behind the last number hold 0
 abbrev pub padded : List ℕ → List ℕ

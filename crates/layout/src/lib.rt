@@ -1,5 +1,5 @@
 // What messages and entries share of their bytes: numbers, highest byte first, and rows of them.
-// Every function takes any buffer and any place: a byte past the end is not stored, and counts as 0 when it is read.
+// Every public function takes any buffer and any place: a byte past the end is not stored, and counts as 0 when it is read.
 ghost use mathlib.Core.Path.{_≡_};
 ghost use mathlib.Core.List.{map};
 ghost use lib.ListN.{length};
@@ -7,7 +7,7 @@ ghost use lib.Seq.{sets};
 ghost use Prim.Native.Nat.{_+_, _≤_, _<_, _^_};
 ghost use Rattle.layout.specs.Number.{bytesOf, numberAt};
 ghost use Rattle.layout.specs.Fields.{written, numbersAt};
-ghost use Rattle.layout.specs.Shapes.{wide};
+ghost use Rattle.layout.specs.Shapes.{bytesIn};
 
 // The accounts are numbered from 0 to this one.
 pub const LAST_ACCOUNT: u16 = 15;
@@ -37,7 +37,7 @@ pub enum Writing {
 
 // Stores a row of numbers from `at` on, each by its width.
 pub fn put_numbers(buffer: &mut [u8], at: usize, widths: [u8; FIELDS], numbers: [u32; FIELDS])
-    ensures { λ _. ⌜ now (buffer .exit) ≡ sets (now (buffer .entry)) at (written (map wide widths) numbers) ⌝ }
+    ensures { λ _. ⌜ now (buffer .exit) ≡ sets (now (buffer .entry)) at (written (map bytesIn widths) numbers) ⌝ }
 {
     if at < buffer.len() {
         let mut to = at;
@@ -53,7 +53,7 @@ pub fn put_numbers(buffer: &mut [u8], at: usize, widths: [u8; FIELDS], numbers: 
 
 // The row of numbers at the beginning of the bytes, each by its width.
 pub fn read_numbers(bytes: &[u8], widths: [u8; FIELDS]) -> [u32; FIELDS]
-    ensures { λ r. ⌜ r ≡ numbersAt (map wide widths) (now (bytes .entry)) 0 ⌝ }
+    ensures { λ r. ⌜ r ≡ numbersAt (map bytesIn widths) (now (bytes .entry)) 0 ⌝ }
 {
     let mut numbers = [0; FIELDS];
     let mut from = 0;
@@ -105,7 +105,7 @@ pub fn number4(bytes: &[u8], at: usize) -> u32
 
 // How many bytes a number of that width has.
 fn bytes_in(width: u8) -> usize
-    ensures { λ r. ⌜ (r ≡ wide width) × (r ≤ 4) ⌝ }
+    ensures { λ r. ⌜ (r ≡ bytesIn width) × (r ≤ 4) ⌝ }
 {
     match width {
         0 => 0,
@@ -117,7 +117,7 @@ fn bytes_in(width: u8) -> usize
 
 // Stores a number of that width from `at` on.
 fn put(buffer: &mut [u8], at: usize, width: u8, number: u32)
-    ensures { λ _. ⌜ now (buffer .exit) ≡ sets (now (buffer .entry)) at (bytesOf (wide width) number) ⌝ }
+    ensures { λ _. ⌜ now (buffer .exit) ≡ sets (now (buffer .entry)) at (bytesOf (bytesIn width) number) ⌝ }
 {
     match width {
         0 => {}
@@ -145,7 +145,7 @@ fn put_bytes(buffer: &mut [u8], at: usize, width: usize, number: u32)
 
 // The number of that width from `at` on.
 fn number(bytes: &[u8], at: usize, width: u8) -> u32
-    ensures { λ r. ⌜ r ≡ numberAt (now (bytes .entry)) at (wide width) ⌝ }
+    ensures { λ r. ⌜ r ≡ numberAt (now (bytes .entry)) at (bytesIn width) ⌝ }
 {
     match width {
         0 => 0,
@@ -160,10 +160,10 @@ fn four(bytes: &[u8], at: usize) -> u32
     requires { ⌜ at + 4 ≤ length (now bytes) ⌝ }
     ensures { λ r. ⌜ r ≡ numberAt (now (bytes .entry)) at 4 ⌝ }
 {
-    wide_of(bytes[at]) * 16777216
-        + wide_of(bytes[at + 1]) * 65536
-        + wide_of(bytes[at + 2]) * 256
-        + wide_of(bytes[at + 3])
+    wide(bytes[at]) * 16777216
+        + wide(bytes[at + 1]) * 65536
+        + wide(bytes[at + 2]) * 256
+        + wide(bytes[at + 3])
 }
 
 // The number in the bytes from `at` on, as many as the width says.
@@ -177,14 +177,14 @@ fn by_bytes(bytes: &[u8], at: usize, width: usize) -> u32
     let mut number = 0;
     let mut i = 0;
     while i < width {
-        number = number * 256 + wide_of(number1(bytes, at + i));
+        number = number * 256 + wide(number1(bytes, at + i));
         i += 1;
     }
     number
 }
 
 // A byte as a number of 4 bytes.
-fn wide_of(byte: u8) -> u32
+fn wide(byte: u8) -> u32
     ensures { λ r. ⌜ (r ≡ byte) × (r < 256) ⌝ }
 {
     byte as u32

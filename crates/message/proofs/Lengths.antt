@@ -1,4 +1,4 @@
--- The whole length of each kind, as the code finds it by ranges: kinds 1 to 3, 4 to 6, and the others.
+-- The whole length of each kind by ranges: kinds 1 to 3, 4 to 6, and the others.
 -- Assumes nothing.
 use Prim.Native.Nat.{ℕ, zero, suc, _≤_, _<_}
 use native.Mathlib.Omega.{arith}

@@ -9,7 +9,7 @@ use borrow.Author.Tests.{eq-eqb, ne-eqb, lt-ltb, le-ltb}
 use lib.ListN.{length, getD}
 use Rattle.layout.specs.Number.{numberAt}
 use Rattle.layout.specs.Fields.{Row, rowOf, wholeOf, thenOf, widthsOf, numbersAt, lastAccount}
-use Rattle.layout.specs.Shapes.{wide, shapeOf}
+use Rattle.layout.specs.Shapes.{bytesIn, shapeOf}
 use Rattle.events.specs.Kinds.{eventOf}
 use Rattle.layout.proofs.Tables.{present, unknown}
 use Rattle.layout.proofs.Shapes.{found-holds, padded-read, padded-at}
@@ -84,7 +84,7 @@ module _ (bytes : List ℕ) (kind whole : ℕ) (nonempty : length bytes ≡ 0 �
         ∙ rw (← k, amount-read kind (headingAt bytes) bytes positive, w)
 
     -- the same by the numbers that the code reads: those of the row, and 0 in the places behind them
-    module _ (numbers : List ℕ) (n : numbers ≡ numbersAt (map wide (shapeOf (rowOf messages kind) .widths)) bytes 0) where
+    module _ (numbers : List ℕ) (n : numbers ≡ numbersAt (map bytesIn (shapeOf (rowOf messages kind) .widths)) bytes 0) where
       row-at : (i : ℕ) → getD numbers i 0 ≡ getD (numbersAt (widthsOf (rowOf messages kind)) bytes 0) i 0
       row-at i =
           let found = rowOf messages kind in

@@ -1,7 +1,7 @@
 -- `layout::by_bytes` meets its contract. The loop's invariant: the number so far is that of the bytes passed, and fits them.
 -- The measure is what is left of the width.
 -- Assumes nothing.
-use Prim.Native.Nat.{ℕ, _+_, _-_, _^_, _≤_, _<_}
+use Prim.Native.Nat.{ℕ, _-_, _^_, _≤_, _<_}
 use native.Mathlib.Omega.{arith}
 use mathlib.Core.Path.{_≡_, refl, sym, _∙_}
 use mathlib.Core.List.{List}
@@ -44,8 +44,8 @@ add-number1 c = omega arith
 number1-requires : tie.Need-number1-requires Inv-loop μ-loop
 number1-requires c κs = search needs
 
-wide-of-requires : tie.Need-wide-of-requires Inv-loop μ-loop
-wide-of-requires c κs = search needs
+wide-requires : tie.Need-wide-requires Inv-loop μ-loop
+wide-requires c κs = search needs
 
 add-number : tie.Need-add-number Inv-loop μ-loop
 add-number c =
@@ -67,8 +67,8 @@ loop-again c =
     let v = at-loop .loop in
     record {
       within = omega arith;
-      value = numberAt-more (v .i) (a .at) (v .number) (c .wide-of .result) (a .bytes .now) (v .inv .value) (c .wide-of .ensures .0 ∙ at-number1 .number1 .ensures);
-      fits = more-fits (v .i) (v .number) (c .wide-of .result) (v .inv .fits) (c .wide-of .ensures .1);
+      value = numberAt-more (v .i) (a .at) (v .number) (c .wide .result) (a .bytes .now) (v .inv .value) (c .wide .ensures .0 ∙ at-number1 .number1 .ensures);
+      fits = more-fits (v .i) (v .number) (c .wide .result) (v .inv .fits) (c .wide .ensures .1);
     }
 
 returns-2 : tie.Need-returns-2 Inv-loop μ-loop
@@ -89,7 +89,7 @@ by-bytes-spec =
     mul-number
     add-number1
     number1-requires
-    wide-of-requires
+    wide-requires
     add-number
     add-i
     loop-less

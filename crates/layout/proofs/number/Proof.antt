@@ -3,7 +3,7 @@
 use native.Mathlib.Omega.{arith}
 use borrow.Author.Needs.{needs}
 use Rattle.layout.specs.Number.{numberAt}
-use Rattle.layout.proofs.Shapes.{wide-four}
+use Rattle.layout.proofs.Shapes.{four-bytes}
 use Rattle.layout.proofs.number.Statement.{statement}
 use Rattle.layout.proofs.number.Tie as tie
 
@@ -27,7 +27,7 @@ returns-3 : tie.Need-returns-3
 returns-3 c = rw (c .before .match .keys3) (c .by-bytes2 .ensures .0)
 
 returns-4 : tie.Need-returns-4
-returns-4 c = rw (wide-four (c .before .before .before .args .width) (omega arith) (omega arith) (omega arith)) (c .number4 .ensures)
+returns-4 c = rw (four-bytes (c .before .before .before .args .width) (omega arith) (omega arith) (omega arith)) (c .number4 .ensures)
 
 pub number-spec : {M : Type 1} → statement M
 number-spec =

@@ -3,7 +3,7 @@
 use native.Mathlib.Omega.{arith}
 use borrow.Author.Needs.{needs}
 use Rattle.layout.specs.Number.{bytesOf}
-use Rattle.layout.proofs.Shapes.{wide-four}
+use Rattle.layout.proofs.Shapes.{four-bytes}
 use Rattle.layout.proofs.put.Statement.{statement}
 use Rattle.layout.proofs.put.Tie as tie
 
@@ -43,7 +43,7 @@ returns-4 : tie.Need-returns-4
 returns-4 c =
     let at-put-bytes3 = c .before .before in
     let start = at-put-bytes3 .before .before .before .before in
-    rw (wide-four (start .args .width) (omega arith) (omega arith) (omega arith)) (at-put-bytes3 .put-bytes3 .ensures)
+    rw (four-bytes (start .args .width) (omega arith) (omega arith) (omega arith)) (at-put-bytes3 .put-bytes3 .ensures)
 
 pub put-spec : {M : Type 1} → statement M
 put-spec =

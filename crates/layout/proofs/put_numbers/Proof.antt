@@ -9,7 +9,7 @@ use borrow.Author.Needs.{needs}
 use lib.ListN.{length, drop}
 use lib.Seq.{sets}
 use Rattle.layout.specs.Fields.{written}
-use Rattle.layout.specs.Shapes.{wide}
+use Rattle.layout.specs.Shapes.{bytesIn}
 use Rattle.layout.proofs.Shapes.{put-place, none-left}
 use Rattle.layout.proofs.Stores.{sets-out}
 use Rattle.layout.proofs.put_numbers.Statement.{statement}
@@ -19,7 +19,7 @@ record Going (buffer₀ : List ℕ) (at : ℕ) (widths numbers buffer : List ℕ
   within : i ≤ 10
   near : to ≤ at + 4 * i
   size : length buffer ≡ length buffer₀
-  rest : sets buffer to (written (drop i (map wide widths)) (drop i numbers)) ≡ sets buffer₀ at (written (map wide widths) numbers)
+  rest : sets buffer to (written (drop i (map bytesIn widths)) (drop i numbers)) ≡ sets buffer₀ at (written (map bytesIn widths) numbers)
 
 abbrev Inv-loop : tie.InvT-loop
 Inv-loop buffer₀ at widths numbers to₀ i₀ buffer to i = Going buffer₀ at widths numbers buffer to i
@@ -86,7 +86,7 @@ returns c =
 returns-2 : tie.Need-returns-2 Inv-loop μ-loop
 returns-2 c =
     let a = c .before .before .args in
-    sym (sets-out (written (map wide (a .t3)) (a .t4)) (a .buffer .now) (a .at) (c .if1 .left))
+    sym (sets-out (written (map bytesIn (a .t3)) (a .t4)) (a .buffer .now) (a .at) (c .if1 .left))
 
 pub put-numbers-spec : {M : Type 1} → statement M
 put-numbers-spec =

@@ -1,15 +1,15 @@
 -- `layout::read_numbers` meets its contract. The loop's invariant: what was read and what is left to read are the row.
 -- The measure is what is left of the places.
 -- Assumes nothing.
-use Prim.Native.Nat.{ℕ, _+_, _*_, _-_, _≤_}
+use Prim.Native.Nat.{ℕ, _*_, _-_, _≤_}
 use native.Mathlib.Omega.{arith}
-use mathlib.Core.Path.{_≡_, refl, sym, _∙_}
+use mathlib.Core.Path.{_≡_, refl, _∙_}
 use mathlib.Core.List.{List, map, _++_, append-nil}
 use borrow.Author.Needs.{needs}
 use lib.ListN.{length, take, drop, length-set}
 use lib.Seq.{take-all}
 use Rattle.layout.specs.Fields.{numbersAt}
-use Rattle.layout.specs.Shapes.{wide}
+use Rattle.layout.specs.Shapes.{bytesIn}
 use Rattle.layout.proofs.Shapes.{read-place, none-left}
 use Rattle.layout.proofs.read_numbers.Statement.{statement}
 use Rattle.layout.proofs.read_numbers.Tie as tie
@@ -18,7 +18,7 @@ record Going (bytes widths numbers : List ℕ) (from i : ℕ) : Type 0 where
   within : i ≤ 10
   near : from ≤ 4 * i
   places : length numbers ≡ 10
-  rest : take i numbers ++ numbersAt (drop i (map wide widths)) bytes from ≡ numbersAt (map wide widths) bytes 0
+  rest : take i numbers ++ numbersAt (drop i (map bytesIn widths)) bytes from ≡ numbersAt (map bytesIn widths) bytes 0
 
 abbrev Inv-loop : tie.InvT-loop
 Inv-loop bytes widths numbers₀ from₀ i₀ numbers from i = Going bytes widths numbers from i

@@ -1,6 +1,5 @@
 -- `message::read_message` meets its contract: each way out is a law of the reader's definition.
 -- Assumes nothing.
-use native.Mathlib.Omega.{arith}
 use mathlib.Core.Path.{_≡_, sym}
 use Rattle.layout.specs.Fields.{rowOf, wholeOf}
 use Rattle.layout.proofs.Shapes.{shape-whole}

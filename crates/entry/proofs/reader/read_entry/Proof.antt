@@ -1,6 +1,5 @@
 -- `entry::reader::read_entry` meets its contract: each way out is a law of the reader's definition.
 -- Assumes nothing.
-use native.Mathlib.Omega.{arith}
 use mathlib.Core.Path.{_≡_, sym, _∙_}
 use Rattle.layout.specs.Fields.{rowOf, wholeOf}
 use Rattle.layout.proofs.Shapes.{shape-whole}

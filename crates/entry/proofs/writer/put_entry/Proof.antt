@@ -1,6 +1,6 @@
 -- `entry::writer::put_entry` meets its contract: the numbers of the entry, stored by the row of its kind, are its bytes.
 -- Assumes nothing.
-use mathlib.Core.Path.{_≡_, _∙_}
+use mathlib.Core.Path.{_≡_}
 use Rattle.layout.specs.Fields.{rowOf}
 use Rattle.layout.specs.Shapes.{shapeOf}
 use Rattle.layout.proofs.Shapes.{shape-whole}

@@ -12,10 +12,6 @@ use Rattle.entry.specs.Bytes.{wholesOf}
 use Rattle.entry.proofs.Stored.{wholes-more, all-places}
 use Rattle.entry.proofs.writer.whole_length.Statement.{statement}
 use Rattle.entry.proofs.writer.whole_length.Tie as tie
-use Rattle.entry.proofs.writer.whole_length.Reads as reads
-use Rattle.entry.proofs.writer.whole_length.Lts as lts
-use Rattle.entry.proofs.writer.told_length.Reads as told-length-reads
-use Rattle.entry.proofs.writer.used.Reads as used-reads
 
 record Measured (places : List Entry) (count whole i : ℕ) : Type 0 where
   within : i ≤ count
@@ -28,40 +24,31 @@ Inv-loop entries count whole₀ i₀ whole i = Measured (entries .at) count whol
 abbrev μ-loop : tie.MeasureT-loop
 μ-loop entries count whole₀ i₀ whole i = count - i
 
--- src/writer.rt:52:9
 used-requires : tie.Need-used-requires Inv-loop μ-loop
 used-requires c κs = search needs
 
--- src/writer.rt:55:5
 loop-holds : tie.Need-loop-holds Inv-loop μ-loop
 unfolding wholesOf
 loop-holds c = record { within = omega arith; few = omega arith; sum = refl }
 
--- src/writer.rt:56:21
 mul-entry : tie.Need-mul-entry Inv-loop μ-loop
 mul-entry c = omega arith
 
--- src/writer.rt:56:21
 element-copy-out-entry : tie.Need-element-copy-out-entry Inv-loop μ-loop
 element-copy-out-entry c = omega arith
 
--- src/writer.rt:57:18
 told-length-requires : tie.Need-told-length-requires Inv-loop μ-loop
 told-length-requires c κs = search needs
 
--- src/writer.rt:57:9
 add-whole : tie.Need-add-whole Inv-loop μ-loop
 add-whole c = omega arith
 
--- src/writer.rt:58:9
 add-i : tie.Need-add-i Inv-loop μ-loop
 add-i c = omega arith
 
--- src/writer.rt:55:5
 loop-less : tie.Need-loop-less Inv-loop μ-loop
 loop-less c = omega arith
 
--- src/writer.rt:55:5
 loop-again : tie.Need-loop-again Inv-loop μ-loop
 loop-again c =
     let at-loop = c .before .before .before in
@@ -74,7 +61,6 @@ loop-again c =
       sum = rw (wholes-more (start .args .t1 .at) (v .i) (omega arith)) (ap₂ _+_ (v .inv .sum) (c .told-length .ensures .0));
     }
 
--- src/writer.rt:49:1
 returns : tie.Need-returns Inv-loop μ-loop
 returns c =
     let v = c .before .loop in
