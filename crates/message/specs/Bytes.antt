@@ -5,7 +5,6 @@ use mathlib.Core.Bool.{cond}
 use mathlib.Core.List.{List, [], _∷_}
 use lib.Dec.{eqb}
 use lib.ListN.{getD}
-use Rattle.events.specs.declared.Event.the-variants.{Open, Withdraw, Deposit, Close}
 use Rattle.layout.specs.Fields.{Row, row, rowOf, wholeOf, widthsOf, written}
 use Rattle.events.specs.Kinds.{eventKind, amountOf, eventOf}
 use Rattle.message.specs.declared.Heading.{Heading}
@@ -36,10 +35,7 @@ headingOf (Abort h) = h
 
 -- the amount, where there is one
 abbrev pub amountsOf : Message → List ℕ
-amountsOf (Request h (Open a)) = a ∷ []
-amountsOf (Request h (Withdraw a)) = a ∷ []
-amountsOf (Request h (Deposit a)) = a ∷ []
-amountsOf (Request h Close) = []
+amountsOf (Request h e) = cond (eqb (eventKind e) 4) [] (amountOf e ∷ [])
 amountsOf (Commit h) = []
 amountsOf (Abort h) = []
 

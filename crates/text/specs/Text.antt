@@ -4,15 +4,14 @@ use Prim.Native.Nat.{ℕ, zero, suc, _+_, _/_, _%_, _≤_}
 use mathlib.Core.Path.{_≡_}
 use mathlib.Core.Bool.{cond}
 use mathlib.Core.List.{List, [], _∷_, _++_}
-use lib.Dec.{ltb}
+use lib.Dec.{ltb, eqb}
 use lib.ListN.{length}
 use lib.Seq.{sets}
 use Rattle.events.specs.declared.Event.{Event}
-use Rattle.events.specs.declared.Event.the-variants.{Open, Withdraw, Deposit, Close}
 use Rattle.account.specs.declared.Told.{Told}
 use Rattle.account.specs.declared.Told.the-variants.{Accepted, Rejected, Held, Noted, Applied, Dropped}
 use Rattle.account.specs.declared.Entry.{Entry}
-use Rattle.events.specs.Kinds.{amountOf}
+use Rattle.events.specs.Kinds.{eventKind, amountOf}
 use Rattle.layout.specs.Answers.{Wrote, wroteOver, refusedWith}
 
 -- the digits of a number, highest first, at most as many as `places` says
@@ -35,10 +34,10 @@ nameOf (Dropped e) = 100 ∷ 114 ∷ 111 ∷ 112 ∷ 112 ∷ 101 ∷ 100 ∷ []
 
 -- the event's name, letter by letter
 abbrev pub eventName : Event → List ℕ
-eventName (Open a) = 111 ∷ 112 ∷ 101 ∷ 110 ∷ []
-eventName (Withdraw a) = 119 ∷ 105 ∷ 116 ∷ 104 ∷ 100 ∷ 114 ∷ 97 ∷ 119 ∷ []
-eventName (Deposit a) = 100 ∷ 101 ∷ 112 ∷ 111 ∷ 115 ∷ 105 ∷ 116 ∷ []
-eventName Close = 99 ∷ 108 ∷ 111 ∷ 115 ∷ 101 ∷ []
+eventName e =
+    cond (eqb (eventKind e) 1) (111 ∷ 112 ∷ 101 ∷ 110 ∷ [])
+    (cond (eqb (eventKind e) 2) (119 ∷ 105 ∷ 116 ∷ 104 ∷ 100 ∷ 114 ∷ 97 ∷ 119 ∷ [])
+    (cond (eqb (eventKind e) 3) (100 ∷ 101 ∷ 112 ∷ 111 ∷ 115 ∷ 105 ∷ 116 ∷ []) (99 ∷ 108 ∷ 111 ∷ 115 ∷ 101 ∷ [])))
 
 -- the fields behind the second: the event and its amount, and the outcomes weighed or the balance; none after a commit noted
 abbrev pub thenFields : Told → List (List ℕ)

@@ -43,24 +43,25 @@ pub(crate) fn name(told: Told) -> Word
     }
 }
 
-// An event's name.
+// An event's name, by its kind.
 pub(crate) fn event_name(event: Event) -> Word
     ensures { λ r. ⌜ r ≡ wordOf (eventName event) ⌝ }
 {
-    match event {
-        Event::Open(_) => Word {
+    let kind = event.kind();
+    match kind {
+        1 => Word {
             length: 4,
             letters: [b'o', b'p', b'e', b'n', b' ', b' ', b' ', b' '],
         },
-        Event::Withdraw(_) => Word {
+        2 => Word {
             length: 8,
             letters: [b'w', b'i', b't', b'h', b'd', b'r', b'a', b'w'],
         },
-        Event::Deposit(_) => Word {
+        3 => Word {
             length: 7,
             letters: [b'd', b'e', b'p', b'o', b's', b'i', b't', b' '],
         },
-        Event::Close => Word {
+        _ => Word {
             length: 5,
             letters: [b'c', b'l', b'o', b's', b'e', b' ', b' ', b' '],
         },
