@@ -96,6 +96,8 @@ impl Account {
 
     pub const HELD: usize = Account::PLACES;
 
+    pub const LIMIT: u32 = State::LIMIT;
+
     // A new account, with nothing in progress or held.
     pub const FRESH: Account = Account {
         state: State::NEW,
