@@ -1,4 +1,4 @@
--- That the digits of a number are its decimal (document 01, "The program": "Numbers are decimal"), and that the longest line is one.
+-- That the digits of a number are its decimal (clause 12.5 of docs/REGISTER.md), and that the longest line is one.
 -- Assumes nothing.
 use Prim.Native.Nat.{ℕ, _+_, _*_, _-_, _^_, _≤_, _<_}
 use mathlib.Core.Path.{_≡_}

@@ -1,4 +1,4 @@
--- Lines of text as they are printed (document 01, "The program"): the definition of a line said a second time, from outside, for every entry; and
+-- Lines of text as they are printed (clause 12.4 of docs/REGISTER.md): the definition of a line said a second time, from outside, for every entry; and
 -- what the writer of lines leaves in the buffer.
 -- Assumes nothing.
 use Prim.Native.Nat.{ℕ, _-_, _≤_, _<_}

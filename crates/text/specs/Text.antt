@@ -1,4 +1,4 @@
--- An entry's line of text, byte by byte (document 01, "The program").
+-- An entry's line of text, byte by byte (clauses 12.4 and 12.5 of docs/REGISTER.md).
 -- Assumes nothing.
 use Prim.Native.Nat.{ℕ, zero, suc, _+_, _/_, _%_, _≤_}
 use mathlib.Core.Path.{_≡_}
@@ -15,7 +15,7 @@ use Rattle.account.specs.declared.Entry.{Entry}
 use Rattle.layout.specs.Events.{amountOf}
 use Rattle.layout.specs.Answers.{Wrote, wroteOver, refusedWith}
 
--- "Numbers are decimal": the digits of a number, highest first, at most as many as `places` says
+-- 12.5: the digits of a number, highest first, at most as many as `places` says
 unfoldable pub decimalIn : (places number : ℕ) → List ℕ
 decimalIn zero number = []
 decimalIn (suc places) number = cond (ltb number 10) ((48 + number) ∷ []) (decimalIn places (number / 10) ++ ((48 + number % 10) ∷ []))
@@ -24,7 +24,7 @@ decimalIn (suc places) number = cond (ltb number 10) ((48 + number) ∷ []) (dec
 abbrev pub decimal : (number : ℕ) → List ℕ
 decimal number = decimalIn 10 number
 
--- "name (accepted, rejected, held, noted, applied or dropped)"
+-- 12.4: the name of an entry,
 abbrev pub nameOf : Told → List ℕ
 nameOf (Accepted e weighed) = 97 ∷ 99 ∷ 99 ∷ 101 ∷ 112 ∷ 116 ∷ 101 ∷ 100 ∷ []
 nameOf (Rejected e weighed) = 114 ∷ 101 ∷ 106 ∷ 101 ∷ 99 ∷ 116 ∷ 101 ∷ 100 ∷ []
@@ -33,14 +33,14 @@ nameOf Noted = 110 ∷ 111 ∷ 116 ∷ 101 ∷ 100 ∷ []
 nameOf (Applied e balance) = 97 ∷ 112 ∷ 112 ∷ 108 ∷ 105 ∷ 101 ∷ 100 ∷ []
 nameOf (Dropped e) = 100 ∷ 114 ∷ 111 ∷ 112 ∷ 112 ∷ 101 ∷ 100 ∷ []
 
--- "Events are named open, withdraw, deposit, close."
+-- of an event,
 abbrev pub eventName : Event → List ℕ
 eventName (Open a) = 111 ∷ 112 ∷ 101 ∷ 110 ∷ []
 eventName (Withdraw a) = 119 ∷ 105 ∷ 116 ∷ 104 ∷ 100 ∷ 114 ∷ 97 ∷ 119 ∷ []
 eventName (Deposit a) = 100 ∷ 101 ∷ 112 ∷ 111 ∷ 115 ∷ 105 ∷ 116 ∷ []
 eventName Close = 99 ∷ 108 ∷ 111 ∷ 115 ∷ 101 ∷ []
 
--- "event, amount, then outcomes or balance where the entry has them"
+-- and what follows the second
 abbrev pub thenFields : Told → List (List ℕ)
 thenFields (Accepted e weighed) = eventName e ∷ decimal (amountOf e) ∷ decimal weighed ∷ []
 thenFields (Rejected e weighed) = eventName e ∷ decimal (amountOf e) ∷ decimal weighed ∷ []
@@ -49,12 +49,12 @@ thenFields Noted = []
 thenFields (Applied e balance) = eventName e ∷ decimal (amountOf e) ∷ decimal balance ∷ []
 thenFields (Dropped e) = eventName e ∷ decimal (amountOf e) ∷ []
 
--- fields that follow another: "one space stands between fields"
+-- 12.5: a space before each field that follows another
 abbrev pub spaced : List (List ℕ) → List ℕ
 spaced [] = []
 spaced (field ∷ fields) = 32 ∷ (field ++ spaced fields)
 
--- "Fields: name .., transaction, account, second, ..": "each line ends in a newline"
+-- 12.4 and 12.5: the fields in their order, and the newline
 unfoldable pub lineOf : (account : ℕ) → Entry → List ℕ
 lineOf account e =
     nameOf (e .told)
