@@ -16,7 +16,7 @@ use Rattle.account.specs.declared.Entries.{Entries}
 use Rattle.account.specs.declared.Told.{Told}
 use Rattle.account.specs.declared.Told.the-variants.{Accepted, Rejected, Held, Noted, Applied, Dropped}
 use Rattle.account.specs.declared.Entry.{Entry}
-use Rattle.account.specs.Steps.{RuleEntry, entryOf}
+use Rattle.account.specs.Steps.{entryOf}
 use Rattle.layout.specs.Number.{bytesOf, numberAt, AreBytes}
 use Rattle.layout.specs.Fields.{written, rowOf, wholeOf}
 use Rattle.message.specs.declared.Message.{Message}
@@ -40,7 +40,7 @@ use Rattle.register.specs.Sequence.{toldAs, ruleEntry, readOn, entriesFrom, ent
 use Rattle.register.proofs.RunCalls.{bytes-left}
 use Rattle.text.specs.Text.{lineOf}
 use Rattle.text.specs.Output.{linesFrom}
-use Rattle.text.specs.OutputCalls.{Lines}
+use Rattle.text.specs.OutputCalls.{EntryLines}
 use Rattle.text.specs.OutputCalls as by
 use Rattle.text.proofs.Pieces.{lines-more, lines-none}
 
@@ -121,20 +121,20 @@ value-there t g Noted = refl
 value-there t g (Applied e n) = refl
 value-there t g (Dropped e) = refl
 
-nothing-left : (most : ℕ) (bytes : List ℕ) → bytes ≡ [] → Lines bytes (linesFrom most bytes)
+nothing-left : (most : ℕ) (bytes : List ℕ) → bytes ≡ [] → EntryLines bytes (linesFrom most bytes)
 unfolding readOf rowOf entryRows numberAt
 nothing-left most bytes e = rw (e, lines-none most [] refl) by.none
 
 module _ (i : ℕ) where
   lines-of : (most other : ℕ) (bytes : List ℕ) → AreBytes bytes → bytes ≡ bytesOfEntries i (map entryOf (entriesFrom most bytes)) → length (entriesFrom most bytes) ≤ other
-      → Lines bytes (linesFrom other bytes)
+      → EntryLines bytes (linesFrom other bytes)
   unfolding entriesFrom bytesOfEntries
   lines-of zero other bytes b e h = nothing-left other bytes e
   lines-of (suc most) other bytes b e h = go (lines-of most) (readOf bytes) refl other e h
     where
-      go : ((other′ : ℕ) (left : List ℕ) → AreBytes left → left ≡ bytesOfEntries i (map entryOf (entriesFrom most left)) → length (entriesFrom most left) ≤ other′ → Lines left (linesFrom other′ left))
+      go : ((other′ : ℕ) (left : List ℕ) → AreBytes left → left ≡ bytesOfEntries i (map entryOf (entriesFrom most left)) → length (entriesFrom most left) ≤ other′ → EntryLines left (linesFrom other′ left))
           → (reading : EntryReading) → readOf bytes ≡ reading → (other′ : ℕ) → bytes ≡ bytesOfEntries i (map entryOf (readOn bytes (λ (rest : List ℕ). entriesFrom most rest) reading))
-          → length (readOn bytes (λ (rest : List ℕ). entriesFrom most rest) reading) ≤ other′ → Lines bytes (linesFrom other′ bytes)
+          → length (readOn bytes (λ (rest : List ℕ). entriesFrom most rest) reading) ≤ other′ → EntryLines bytes (linesFrom other′ bytes)
       go on Nothing q other′ e′ h′ = nothing-left other′ bytes e′
       go on (Found x account whole) q zero e′ h′ = absurd (omega arith)
       go on (Found x account whole) q (suc other′) e′ h′ =
@@ -144,7 +144,7 @@ module _ (i : ℕ) where
           ap (drop whole) e′ ∙ drop-at (bytesOfEntry i (entryOf (ruleEntry x))) (bytesOfEntries i (map entryOf (entriesFrom most (drop whole bytes)))) whole (rw value (length-entry i x ∙ sym (read .length′))) in
           let split : bytesOfEntry account x ++ drop whole bytes ≡ bytes = rw (← read .bytes′) (take-append-drop whole bytes) in
           rw (lines-more other′ bytes x account whole q)
-          (subst (λ (l : List ℕ). Lines l (lineOf account x ++ linesFrom other′ (drop whole bytes))) split
+          (subst (λ (l : List ℕ). EntryLines l (lineOf account x ++ linesFrom other′ (drop whole bytes))) split
           (by.more account x (on other′ (drop whole bytes) (bytes-left bytes whole b) left (omega arith))))
 
 -- ---- the entries of a call are few
@@ -197,7 +197,7 @@ module _ (r : Register) (buffer : List ℕ) where
 -- a call that is seen and wrote only entries
 pub lines-seen : (r : Register) (bytes buffer : List ℕ) (consumed written : ℕ) → callOf r bytes buffer .answer ≡ Taken consumed written
     → OnlyEntries (record { message = bytes; answer = callOf r bytes buffer .answer; buffer = callOf r bytes buffer .buffer })
-    → Lines (take written (callOf r bytes buffer .buffer)) (linesFrom 17 (take written (callOf r bytes buffer .buffer)))
+    → EntryLines (take written (callOf r bytes buffer .buffer)) (linesFrom 17 (take written (callOf r bytes buffer .buffer)))
 lines-seen r bytes buffer consumed written q only =
     let text = take written (callOf r bytes buffer .buffer) in
     let i = accountIn bytes in

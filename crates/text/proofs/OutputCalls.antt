@@ -1,8 +1,8 @@
 -- The text of an input by its run: the calls are the same, each says its entries or its refusal, and the run's numbers are those of its calls.
 -- Assumes nothing.
-use Prim.Native.Nat.{ℕ, _≤_}
+use Prim.Native.Nat.{ℕ}
 use native.Mathlib.Omega.{arith}
-use mathlib.Core.Path.{_≡_, refl, _∙_, ap}
+use mathlib.Core.Path.{_≡_, refl, ap}
 use mathlib.Core.List.{List, [], _∷_, _++_, append-nil, append-assoc}
 use borrow.Author.Tests.{lt-ltb, le-ltb}
 use lib.ListN.{length}
@@ -12,17 +12,16 @@ use Rattle.register.specs.declared.Answer.the-variants.{Refused, Taken}
 use Rattle.register.specs.declared.runs.Ran.{Ran}
 use Rattle.register.specs.Register.{freshRegister}
 use Rattle.register.specs.Call.{callOf}
-use Rattle.register.specs.Sequence.{Input, Exchange, exchanges, OnlyEntries, EachOnlyEntries}
-use Rattle.register.specs.Run.{runOf}
+use Rattle.register.specs.Sequence.{Input, exchanges, OnlyEntries, EachOnlyEntries}
 use Rattle.register.proofs.RunCalls.{calls-bytes}
 use Rattle.register.proofs.Demands.{demand3}
-use Rattle.text.specs.Text.{decimal, spaced}
+use Rattle.text.specs.Text.{decimal}
 use Rattle.text.specs.Quoted.{quoted}
-use Rattle.text.specs.Output.{longestInput, firstLine, tooLong, refusedLine, lastLine, answerText, answersText, seenText, seenOf, outputOf}
+use Rattle.text.specs.Output.{longestInput, firstLine, tooLong, refusedLine, lastLine, answerText, answersText, exchangesOf, outputOf}
 use Rattle.text.specs.OutputCalls.{Says, Said, OutputIsItsRun, LongerIsTooLong}
 use Rattle.text.specs.OutputCalls as by
 use Rattle.text.proofs.EntryLines.{lines-seen}
-use Rattle.text.proofs.SameCalls.{Alike, same-text, same-length, same-refused, calls-alike}
+use Rattle.text.proofs.SameCalls.{SameSeen, same-text, same-length, same-refused, calls-alike}
 
 -- ---- the words
 
@@ -50,7 +49,7 @@ pub output-is-its-run : OutputIsItsRun
 unfolding outputOf firstLine
 output-is-its-run bytes buffer b l k calls =
     let seen = exchanges freshRegister (calls .inputs) in
-    let alike : Alike (seenOf bytes) seen = calls-alike (calls .calls) freshRegister refl (length bytes) (omega arith) k in
+    let alike : SameSeen (exchangesOf bytes) seen = calls-alike (calls .calls) freshRegister refl (length bytes) (omega arith) k in
     let met = ap (λ (x : Ran). x .met) (calls .sums .counts) in
     let refused = ap (λ (x : Ran). x .refused) (calls .sums .counts) in
     record {

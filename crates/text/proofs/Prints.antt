@@ -16,7 +16,7 @@ use Rattle.register.specs.declared.Answer.{Answer}
 use Rattle.register.specs.declared.Answer.the-variants.{Refused, Taken}
 use Rattle.register.specs.declared.runs.Passed.{Passed}
 use Rattle.register.specs.Call.{callOf}
-use Rattle.register.specs.Sequence.{Input, Exchange, exchanges}
+use Rattle.register.specs.Sequence.{Exchange, exchanges}
 use Rattle.register.specs.Run.{lengthAt, passedOf}
 use Rattle.register.specs.RunCalls.{refusals, refusedAmong}
 use Rattle.text.specs.declared.program.Served.{Served}
@@ -40,12 +40,12 @@ calls-more most r bytes h = rw (ne-eqb (length bytes) 0 (λ z. omega arith))
 
 -- ---- the text of calls, behind so many messages met and refused
 
-pub told : (met refused : ℕ) → List Exchange → List ℕ
-told met refused seen = answersText seen ++ lastLine (met + length seen) (refused + refusedAmong seen)
+pub textOn : (met refused : ℕ) → List Exchange → List ℕ
+textOn met refused seen = answersText seen ++ lastLine (met + length seen) (refused + refusedAmong seen)
 
 told-more : (met refused : ℕ) (x : Exchange) (seen : List Exchange)
-    → told met refused (x ∷ seen) ≡ answerText (x .answer) (x .buffer) ++ told (met + 1) (refused + refusals (x .answer)) seen
-unfolding told
+    → textOn met refused (x ∷ seen) ≡ answerText (x .answer) (x .buffer) ++ textOn (met + 1) (refused + refusals (x .answer)) seen
+unfolding textOn
 told-more met refused x seen =
     let m : met + suc (length seen) ≡ met + 1 + length seen = omega arith in
     let k : refused + (refusals (x .answer) + refusedAmong seen) ≡ refused + refusals (x .answer) + refusedAmong seen = omega arith in
@@ -121,11 +121,11 @@ counted-is : (count by : ℕ) → count < longestInput → counted count by ≡ 
 counted-is count by h = rw (lt-ltb count longestInput h)
 
 ends-told : (most : ℕ) (s : Served) (input : List ℕ) → Within s input → callsFrom most (s .register) (drop (s .from) input) ≡ []
-    → finishText s input ≡ told (s .met) (s .refused) (seenFrom most s input)
-unfolding told seenFrom
+    → finishText s input ≡ textOn (s .met) (s .refused) (seenFrom most s input)
+unfolding textOn seenFrom
 ends-told most s input w none = rw (none, le-ltb longestInput (length input) (w .taken), add-zero (s .met), add-zero (s .refused))
 
-module _ (most : ℕ) (h : (s : Served) (input : List ℕ) → Within s input → printedFrom most s input ≡ told (s .met) (s .refused) (seenFrom most s input))
+module _ (most : ℕ) (h : (s : Served) (input : List ℕ) → Within s input → printedFrom most s input ≡ textOn (s .met) (s .refused) (seenFrom most s input))
     (s : Served) (input : List ℕ) (w : Within s input) where
   module _ (more : s .from < length input) where
     counts : (counted (s .met) 1 ≡ s .met + 1) × (counted (s .refused) (passedAt s input .refused) ≡ s .refused + passedAt s input .refused)
@@ -133,7 +133,7 @@ module _ (most : ℕ) (h : (s : Served) (input : List ℕ) → Within s input �
 
     -- after the message
     rest-told : printedFrom most (serveOf s input) input
-        ≡ told (s .met + 1) (s .refused + refusals (calledAt s input .answer))
+        ≡ textOn (s .met + 1) (s .refused + refusals (calledAt s input .answer))
         (exchanges (calledAt s input .register) (cond (passedAt s input .stops) [] (callsFrom most (calledAt s input .register) (drop (passedAt s input .consumed) (rest s input more)))))
     unfolding seenFrom
     rest-told =
@@ -149,30 +149,30 @@ module _ (most : ℕ) (h : (s : Served) (input : List ℕ) → Within s input �
         })
         ∙ rw (counts .0, counts .1, passed-refused (calledAt s input .answer) (lengthAt (drop (s .from) input)), calls-on s input more most r (p .stops) refl))
 
-    one-told : printedFrom (suc most) s input ≡ told (s .met) (s .refused) (seenFrom (suc most) s input)
+    one-told : printedFrom (suc most) s input ≡ textOn (s .met) (s .refused) (seenFrom (suc most) s input)
     unfolding seenFrom rest
     one-told =
         printed-more s input more most
         ∙ ap₂ (λ (x y : List ℕ). x ++ y) (text-is s input more) rest-told
         ∙ rw (calls-more most (s .register) (drop (s .from) input) (some-left s input more)) (sym (told-more (s .met) (s .refused) _ _))
 
-  step-told : printedFrom (suc most) s input ≡ told (s .met) (s .refused) (seenFrom (suc most) s input)
+  step-told : printedFrom (suc most) s input ≡ textOn (s .met) (s .refused) (seenFrom (suc most) s input)
   step-told = go (ltb (s .from) (length input)) refl
     where
-      go : (b : Bool) → ltb (s .from) (length input) ≡ b → printedFrom (suc most) s input ≡ told (s .met) (s .refused) (seenFrom (suc most) s input)
+      go : (b : Bool) → ltb (s .from) (length input) ≡ b → printedFrom (suc most) s input ≡ textOn (s .met) (s .refused) (seenFrom (suc most) s input)
       go true q = one-told (ltb-true (s .from) (length input) q)
       go false q =
           let e : length input ≤ s .from = ltb-false (s .from) (length input) q in
           printed-none (suc most) s input e
           ∙ ends-told (suc most) s input w (calls-none (suc most) (s .register) (drop (s .from) input) (length-drop (s .from) input ∙ omega arith))
 
-printed-told : (most : ℕ) (s : Served) (input : List ℕ) → Within s input → printedFrom most s input ≡ told (s .met) (s .refused) (seenFrom most s input)
+printed-told : (most : ℕ) (s : Served) (input : List ℕ) → Within s input → printedFrom most s input ≡ textOn (s .met) (s .refused) (seenFrom most s input)
 unfolding callsFrom printedFrom
 printed-told zero s input w = ends-told zero s input w refl
 printed-told (suc most) s input w = step-told most (printed-told most) s input w
 
 pub prints-the-output : PrintsTheOutput
-unfolding printedOf outputOf told seenFrom
+unfolding printedOf outputOf textOn seenFrom
 prints-the-output input = go (ltb longestInput (length input)) refl
   where
     go : (b : Bool) → ltb longestInput (length input) ≡ b → printedOf input ≡ outputOf input

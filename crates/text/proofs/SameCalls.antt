@@ -5,19 +5,17 @@ use Prim.Native.Nat.{ℕ, zero, suc, _+_, _*_, _≤_, _<_}
 use native.Mathlib.Omega.{arith}
 use mathlib.Core.Path.{_≡_, refl, sym, _∙_, ap}
 use mathlib.Core.Logic.{_⊎_, inl, inr}
-use mathlib.Core.Bool.{Bool, true, false, cond}
-use mathlib.Core.List.{List, [], _∷_, _++_}
+use mathlib.Core.Bool.{cond}
+use mathlib.Core.List.{List, [], _∷_}
 use borrow.Author.Tests.{le-ltb}
-use lib.Dec.{ltb}
 use lib.ListN.{length, getD, take, drop, length-drop}
 use Rattle.register.specs.declared.Register.{Register}
 use Rattle.register.specs.declared.Answer.{Answer}
 use Rattle.register.specs.declared.Answer.the-variants.{Refused, Taken}
-use Rattle.register.specs.declared.runs.Passed.{Passed}
-use Rattle.register.specs.Call.{Result, callOf, writtenOf}
+use Rattle.register.specs.Call.{callOf, writtenOf}
 use Rattle.register.specs.Sequence.{Input, Exchange, exchanges}
 use Rattle.register.specs.Run.{lengthAt, passedOf}
-use Rattle.register.specs.RunCalls.{Calls, ended, stopped, skipped, taken, refusals, refusedAmong}
+use Rattle.register.specs.RunCalls.{Calls, ended, stopped, skipped, taken, refusedAmong}
 use Rattle.register.specs.Whole.{Whole, with-amount, without-amount}
 use Rattle.register.proofs.Passed.{passed-stops, passed-skips}
 use Rattle.register.proofs.Moved.{Stands, Refusable, call-moves, call-tells}
@@ -27,24 +25,24 @@ use Rattle.text.specs.Output.{answerText, answersText, entryRoom, callsF
 use Rattle.text.proofs.Prints.{calls-none, calls-more}
 
 -- two calls of which the same is seen but for buffer bytes behind the entries
-pub data Alike : List Exchange → List Exchange → Type 0 where
-  none : Alike [] []
-  more : {x y : Exchange} {xs ys : List Exchange} → x .answer ≡ y .answer → take (writtenOf (x .answer)) (x .buffer) ≡ take (writtenOf (x .answer)) (y .buffer) → Alike xs ys
-      → Alike (x ∷ xs) (y ∷ ys)
+pub data SameSeen : List Exchange → List Exchange → Type 0 where
+  none : SameSeen [] []
+  more : {x y : Exchange} {xs ys : List Exchange} → x .answer ≡ y .answer → take (writtenOf (x .answer)) (x .buffer) ≡ take (writtenOf (x .answer)) (y .buffer) → SameSeen xs ys
+      → SameSeen (x ∷ xs) (y ∷ ys)
 
 same-answer : (answer : Answer) (b b′ : List ℕ) → take (writtenOf answer) b ≡ take (writtenOf answer) b′ → answerText answer b ≡ answerText answer b′
 same-answer (Refused n) b b′ e = refl
 same-answer (Taken consumed written) b b′ e = rw e
 
-pub same-text : {xs ys : List Exchange} → Alike xs ys → answersText xs ≡ answersText ys
+pub same-text : {xs ys : List Exchange} → SameSeen xs ys → answersText xs ≡ answersText ys
 same-text none = refl
 same-text (more {x = x} {y = y} q e r) = rw (same-text r, same-answer (x .answer) (x .buffer) (y .buffer) e, q)
 
-pub same-length : {xs ys : List Exchange} → Alike xs ys → length xs ≡ length ys
+pub same-length : {xs ys : List Exchange} → SameSeen xs ys → length xs ≡ length ys
 same-length none = refl
 same-length (more q e r) = ap suc (same-length r)
 
-pub same-refused : {xs ys : List Exchange} → Alike xs ys → refusedAmong xs ≡ refusedAmong ys
+pub same-refused : {xs ys : List Exchange} → SameSeen xs ys → refusedAmong xs ≡ refusedAmong ys
 same-refused none = refl
 same-refused (more q e r) = rw (q, same-refused r)
 
@@ -92,24 +90,24 @@ module _ (r : Register) (bytes buffer : List ℕ) (room : 315 ≤ length buffer)
   one-more : (most : ℕ) (seen : List Exchange) → 0 < length bytes
       → let called = callOf r bytes entryRoom in
       let passed = passedOf (called .answer) (lengthAt bytes) in
-      Alike (exchanges (called .register) (cond (passed .stops) [] (callsFrom most (called .register) (drop (passed .consumed) bytes)))) seen
-      → Alike (exchanges r (callsFrom (suc most) r bytes)) (x ∷ seen)
+      SameSeen (exchanges (called .register) (cond (passed .stops) [] (callsFrom most (called .register) (drop (passed .consumed) bytes)))) seen
+      → SameSeen (exchanges r (callsFrom (suc most) r bytes)) (x ∷ seen)
   one-more most seen h a = rw (calls-more most r bytes h, is) (more (same .answer) (same .entries) a)
 
-  one-stops : (most n : ℕ) → 0 < length bytes → x .answer ≡ Refused n → (n ≡ 1) ⊎ (n ≡ 2) → Alike (exchanges r (callsFrom (suc most) r bytes)) (x ∷ [])
+  one-stops : (most n : ℕ) → 0 < length bytes → x .answer ≡ Refused n → (n ≡ 1) ⊎ (n ≡ 2) → SameSeen (exchanges r (callsFrom (suc most) r bytes)) (x ∷ [])
   one-stops most n h q which = one-more most [] h (rw (answers (Refused n) q, passed-stops n (lengthAt bytes) which) none)
 
   one-skips : (most n whole : ℕ) (seen : List Exchange) → 3 ≤ n → x .answer ≡ Refused n → Whole bytes whole
-      → Alike (exchanges (callOf r bytes entryRoom .register) (callsFrom most (callOf r bytes entryRoom .register) (drop whole bytes))) seen
-      → Alike (exchanges r (callsFrom (suc most) r bytes)) (x ∷ seen)
+      → SameSeen (exchanges (callOf r bytes entryRoom .register) (callsFrom most (callOf r bytes entryRoom .register) (drop whole bytes))) seen
+      → SameSeen (exchanges r (callsFrom (suc most) r bytes)) (x ∷ seen)
   one-skips most n whole seen h q w a =
       let stands = stands-skipped n h q in
       one-more most seen (omega (arith, some-bytes (stands .whole), stands .all-there))
       (rw (answers (Refused n) q, passed-skips n (lengthAt bytes) h, one-length (stands .whole) w) a)
 
   one-takes : (most whole written : ℕ) (seen : List Exchange) → x .answer ≡ Taken whole written
-      → Alike (exchanges (callOf r bytes entryRoom .register) (callsFrom most (callOf r bytes entryRoom .register) (drop whole bytes))) seen
-      → Alike (exchanges r (callsFrom (suc most) r bytes)) (x ∷ seen)
+      → SameSeen (exchanges (callOf r bytes entryRoom .register) (callsFrom most (callOf r bytes entryRoom .register) (drop whole bytes))) seen
+      → SameSeen (exchanges r (callsFrom (suc most) r bytes)) (x ∷ seen)
   one-takes most whole written seen q a =
       let stands = stands-taken whole written q .1 in
       one-more most seen (omega (arith, some-bytes (stands .whole), stands .all-there)) (rw (answers (Taken whole written) q) a)
@@ -134,7 +132,7 @@ module _ (r : Register) (bytes buffer : List ℕ) (room : 315 ≤ length buffer)
 -- the calls of the run, from a register on
 pub calls-alike : {bytes buffer : List ℕ} {inputs : List Input} {seen : List Exchange} {passed : ℕ} → Calls bytes buffer inputs seen passed
     → (r : Register) → seen ≡ exchanges r inputs → (most : ℕ) → length bytes ≤ most → 315 * length bytes ≤ length buffer
-    → Alike (exchanges r (callsFrom most r bytes)) seen
+    → SameSeen (exchanges r (callsFrom most r bytes)) seen
 calls-alike ended r e most h k = rw (calls-none most r [] refl) none
 calls-alike (stopped n some q which) r e zero h k = absurd (omega arith)
 calls-alike (stopped {bytes} {buffer} {x} n some q which) r e (suc most) h k = one-stops r bytes buffer (omega arith) x (head-is e) most n some q which

@@ -81,8 +81,8 @@ callsFrom (suc most) r bytes =
     cond (eqb (length bytes) 0) [] calls
 
 -- what is seen of the calls of an input; there are no more messages than bytes
-abbrev pub seenOf : (bytes : List ℕ) → List Exchange
-seenOf bytes = exchanges freshRegister (callsFrom (length bytes) freshRegister bytes)
+abbrev pub exchangesOf : (bytes : List ℕ) → List Exchange
+exchangesOf bytes = exchanges freshRegister (callsFrom (length bytes) freshRegister bytes)
 
 unfoldable pub outputOf : (bytes : List ℕ) → List ℕ
-outputOf bytes = firstLine ++ cond (ltb longestInput (length bytes)) tooLong (seenText (seenOf bytes))
+outputOf bytes = firstLine ++ cond (ltb longestInput (length bytes)) tooLong (seenText (exchangesOf bytes))

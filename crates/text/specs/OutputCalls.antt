@@ -18,14 +18,14 @@ use Rattle.text.specs.Quoted.{quoted}
 use Rattle.text.specs.Output.{outputOf}
 
 -- bytes that are entries, one after the other and nothing else, and their lines
-pub data Lines : (bytes text : List ℕ) → Type 0 where
-  none : Lines [] []
-  more : {bytes text : List ℕ} (account : ℕ) (e : Entry) → Lines bytes text → Lines (bytesOfEntry account e ++ bytes) (lineOf account e ++ text)
+pub data EntryLines : (bytes text : List ℕ) → Type 0 where
+  none : EntryLines [] []
+  more : {bytes text : List ℕ} (account : ℕ) (e : Entry) → EntryLines bytes text → EntryLines (bytesOfEntry account e ++ bytes) (lineOf account e ++ text)
 
 -- the text of a call that is seen
 pub data Says (x : Exchange) : (text : List ℕ) → Type 0 where
   refused : (number : ℕ) → x .answer ≡ Refused number → Says x (quoted "refused " ++ (decimal number ++ quoted "\n"))
-  taken : {text : List ℕ} (consumed written : ℕ) → x .answer ≡ Taken consumed written → Lines (take written (x .buffer)) text → Says x text
+  taken : {text : List ℕ} (consumed written : ℕ) → x .answer ≡ Taken consumed written → EntryLines (take written (x .buffer)) text → Says x text
 
 -- of all of them, one after the other
 pub data Said : List Exchange → (text : List ℕ) → Type 0 where

@@ -17,13 +17,17 @@ printed (line ∷ lines) = quoted line ++ printed lines
 abbrev pub sampleLines : List String
 sampleLines =
     "register 1\n" ∷
+    -- to open, and that settled
     "accepted 1 0 100 open 100 1\n" ∷
     "noted 1 0 100\n" ∷
     "applied 1 0 100 open 100 100\n" ∷
+    -- two that cannot both be had: the second waits,
     "accepted 2 0 100 withdraw 60 1\n" ∷
     "held 3 0 100 withdraw 60 2\n" ∷
+    -- until the first is given up
     "dropped 2 0 100 withdraw 60\n" ∷
     "accepted 3 0 100 withdraw 60 1\n" ∷
+    -- and is settled itself
     "noted 3 0 100\n" ∷
     "applied 3 0 100 withdraw 60 40\n" ∷
     "end 6 0\n" ∷

@@ -5,7 +5,7 @@ use native.Mathlib.Omega.{arith}
 use mathlib.Core.Path.{_≡_, sym, _∙_}
 use borrow.Author.Needs.{needs}
 use borrow.Rule.Slice.PartAt.{part-to-end}
-use Rattle.entry.specs.declared.EntryReading.the-variants.{Found, Nothing}
+use Rattle.entry.specs.declared.EntryReading.the-variants.{Found}
 use Rattle.entry.specs.Answers.{readOf}
 use lib.ListN.{drop}
 use Rattle.text.proofs.Pieces.{Lined, lined-start, lined-none, lined-all, from-within, lined-more}

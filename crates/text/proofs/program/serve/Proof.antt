@@ -1,6 +1,6 @@
 -- `text::program::serve` meets its contract: the pieces are those of a step.
 -- Assumes nothing.
-use mathlib.Core.Path.{_≡_, _∙_}
+use mathlib.Core.Path.{_≡_}
 use borrow.Author.Needs.{needs}
 use borrow.Rule.Slice.PartAt.{part-to-end}
 use Rattle.text.specs.Program.{passedAt}
