@@ -18,7 +18,7 @@ use Rattle.account.specs.Places.{RuleSlot}
 use Rattle.account.specs.Weighing.{weighingOf}
 use Rattle.account.specs.Clauses.{isAccept}
 
--- how many outcomes there are, whether each event finds its guard true in every outcome of those before it, and then the range of all outcomes
+-- how many outcomes there are, whether each event finds its guard true however the older ones end, and then the range of all outcomes
 pub record Knows (s : State) (xs : List RuleSlot) (r : Outcomes) : Type 0 where
   pub number : r .number ≡ length (outcomes panel xs s)
   pub guards : r .guarded ≡ guarded panel s [] xs

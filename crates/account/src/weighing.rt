@@ -29,7 +29,7 @@ pub(crate) struct Weighing {
     pub(crate) weighed: u32,
 }
 
-// The outcomes of the events in progress: their range and their number, and whether each event finds its guard true in every outcome of those before it; where one does not, the range says nothing.
+// The outcomes of the events in progress: their range and their number, and whether each event finds its guard true however the older ones end; where one does not, the range says nothing.
 pub(crate) struct Outcomes {
     pub(crate) range: Range,
     pub(crate) number: u32,

@@ -1,4 +1,4 @@
--- A range kept through the events in progress is that of all outcomes: each event finds its guard true in every outcome of those before it, so each step of the range is a step of the list.
+-- A range kept through the events in progress is that of all outcomes: each event finds its guard true however the older ones end, so each step of the range is a step of the list.
 -- Assumes nothing.
 use Prim.Native.Nat.{ℕ}
 use mathlib.Core.Path.{_≡_, sym, _∙_, ap}

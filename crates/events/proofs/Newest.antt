@@ -97,7 +97,7 @@ module _ {G S E B : Type 0} (R : Rule S E B) where
       go zero h = absurd (omega (arith, pow-pos (undecidedOf xs)))
       go (suc m) h = (outcome R xs 0 s, map (λ (n : ℕ). outcome R xs n s) (numbers 1 m), ap (λ (k : ℕ). map (λ (n : ℕ). outcome R xs n s) (numbers 0 k)) h)
 
-  -- each event finds its guard true in every outcome of those before it: with one event more
+  -- each event finds its guard true however the older ones end: with one event more
   pub guarded-more : (s : S) (before xs : List (Slot G E)) (t : ℕ) (g : G) (e : E) (d : Decision)
       → guarded R s before (xs ++ (slot t g e d ∷ [])) ≡ (guarded R s before xs && every (R .guard e) (outcomes R (before ++ xs) s))
   guarded-more s before [] t g e d = rw (append-nil before) (and-true (every (R .guard e) (outcomes R before s)))

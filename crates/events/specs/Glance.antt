@@ -1,5 +1,5 @@
 -- A range is exact: what it is of any states, in plain words; that it answers for an event's guard in all of them and in some; and that, kept through events in progress each of
--- which finds its guard true in every outcome of those before it, it is the range of the list of all outcomes (4.1 to 4.3).
+-- which finds its guard true however the older ones end, it is the range of the list of all outcomes (4.1 to 4.3).
 -- Assumes nothing.
 use Prim.Native.Nat.{ℕ, _≤_}
 use mathlib.Core.Path.{_≡_}
