@@ -27,6 +27,14 @@ module _ {ℓ} {A : Type ℓ} where
   pub sets-before : (x : A) (ys l : List A) (i : ℕ) → set (sets l (suc i) ys) i x ≡ sets l i (x ∷ ys)
   sets-before x ys l i = set-before x ys l i (suc i) (omega arith)
 
+  -- four stores one after the other
+  pub sets-four : (a b c d : A) (l : List A) (i : ℕ) → set (set (set (set l i a) (i + 1) b) (i + 2) c) (i + 3) d ≡ sets l i (a ∷ b ∷ c ∷ d ∷ [])
+  sets-four a b c d l i =
+      let one : i + 1 ≡ suc i = omega arith in
+      let two : i + 2 ≡ suc (suc i) = omega arith in
+      let three : i + 3 ≡ suc (suc (suc i)) = omega arith in
+      rw (one, two, three)
+
   pub sets-out : (vs l : List A) (i : ℕ) → length l ≤ i → sets l i vs ≡ l
   sets-out [] l i h = refl
   sets-out (v ∷ vs) l i h = rw (set-out l i v h) (sets-out vs l (suc i) (omega arith))

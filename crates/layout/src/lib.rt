@@ -43,9 +43,7 @@ pub fn put_numbers(buffer: &mut [u8], at: usize, widths: [u8; FIELDS], numbers: 
         let mut to = at;
         let mut i = 0;
         while i < FIELDS {
-            let width = widths[i];
-            put(buffer, to, width, numbers[i]);
-            to += bytes_in(width);
+            to += put(buffer, to, widths[i], numbers[i]);
             i += 1;
         }
     }
@@ -115,16 +113,50 @@ fn bytes_in(width: u8) -> usize
     }
 }
 
-// Stores a number of that width from `at` on.
-fn put(buffer: &mut [u8], at: usize, width: u8, number: u32)
-    ensures { λ _. ⌜ now (buffer .exit) ≡ sets (now (buffer .entry)) at (bytesOf (bytesIn width) number) ⌝ }
+// Stores a number of that width from `at` on, and answers how many bytes it has.
+fn put(buffer: &mut [u8], at: usize, width: u8, number: u32) -> usize
+    ensures { λ r. ⌜ (r ≡ bytesIn width) × (r ≤ 4) × (now (buffer .exit) ≡ sets (now (buffer .entry)) at (bytesOf (bytesIn width) number)) ⌝ }
 {
     match width {
-        0 => {}
-        1 => put_bytes(buffer, at, 1, number),
-        2 => put_bytes(buffer, at, 2, number),
-        _ => put_bytes(buffer, at, 4, number),
+        0 => 0,
+        1 => {
+            put_bytes(buffer, at, 1, number);
+            1
+        }
+        2 => {
+            put_bytes(buffer, at, 2, number);
+            2
+        }
+        _ => {
+            put4(buffer, at, number);
+            4
+        }
     }
+}
+
+// Stores a number of 4 bytes from `at` on, in one step where there is room for all four.
+fn put4(buffer: &mut [u8], at: usize, number: u32)
+    ensures { λ _. ⌜ now (buffer .exit) ≡ sets (now (buffer .entry)) at (bytesOf 4 number) ⌝ }
+{
+    if buffer.len() <= at {
+        return;
+    }
+    if 3 < buffer.len() - at {
+        put_four(buffer, at, number);
+        return;
+    }
+    put_bytes(buffer, at, 4, number);
+}
+
+// Stores the four bytes of a number.
+fn put_four(buffer: &mut [u8], at: usize, number: u32)
+    requires { ⌜ at + 4 ≤ length (now buffer) ⌝ }
+    ensures { λ _. ⌜ now (buffer .exit) ≡ sets (now (buffer .entry)) at (bytesOf 4 number) ⌝ }
+{
+    buffer[at] = (number / 16777216 % 256) as u8;
+    buffer[at + 1] = (number / 65536 % 256) as u8;
+    buffer[at + 2] = (number / 256 % 256) as u8;
+    buffer[at + 3] = (number % 256) as u8;
 }
 
 // Stores the lowest bytes of a number, as many as the width says, from the last to the first.

@@ -30,20 +30,17 @@ abbrev μ-loop : tie.MeasureT-loop
 loop-holds : tie.Need-loop-holds Inv-loop μ-loop
 loop-holds c = record { within = omega arith; near = omega arith; size = refl; rest = refl }
 
-array-read-width : tie.Need-array-read-width Inv-loop μ-loop
-array-read-width c = omega arith
+array-read-put : tie.Need-array-read-put Inv-loop μ-loop
+array-read-put c = omega arith
 
 mul-put : tie.Need-mul-put Inv-loop μ-loop
 mul-put c = omega arith
 
-array-read-put : tie.Need-array-read-put Inv-loop μ-loop
-array-read-put c = omega arith
+array-read-put-2 : tie.Need-array-read-put-2 Inv-loop μ-loop
+array-read-put-2 c = omega arith
 
 put-requires : tie.Need-put-requires Inv-loop μ-loop
 put-requires c κs = search needs
-
-bytes-in-requires : tie.Need-bytes-in-requires Inv-loop μ-loop
-bytes-in-requires c κs = search needs
 
 add-to : tie.Need-add-to Inv-loop μ-loop
 add-to c = omega arith
@@ -56,7 +53,7 @@ loop-less c = omega arith
 
 loop-again : tie.Need-loop-again Inv-loop μ-loop
 loop-again c =
-    let at-put = c .before .before .before in
+    let at-put = c .before .before in
     let at-loop = at-put .before .before .before in
     let start = at-loop .before .before .before in
     let a = start .args in
@@ -68,8 +65,8 @@ loop-again c =
       near = omega arith;
       size = at-put .put .kept .0 ∙ v .inv .size;
       rest =
-          put-place (a .t3) (a .t4) (v .buffer) (at-put .put .last .0) (v .to) (v .i) (c .bytes-in .result) (omega arith) (omega arith)
-          (c .bytes-in .ensures .0) (at-put .put .ensures)
+          put-place (a .t3) (a .t4) (v .buffer) (at-put .put .last .0) (v .to) (v .i) (at-put .put .result) (omega arith) (omega arith)
+          (at-put .put .ensures .0) (at-put .put .ensures .2)
           ∙ v .inv .rest;
     }
 
@@ -95,11 +92,10 @@ put-numbers-spec =
     Inv-loop
     μ-loop
     loop-holds
-    array-read-width
-    mul-put
     array-read-put
+    mul-put
+    array-read-put-2
     put-requires
-    bytes-in-requires
     add-to
     add-i
     loop-less
