@@ -12,7 +12,7 @@ use Rattle.rule.specs.Rule as rule
 use Rattle.rule.specs.Outcome.{outcomes}
 use Rattle.rule.specs.Weigh.{weigh, decide}
 use Rattle.rule.specs.Step.{named}
-use Rattle.rule.specs.Order as rule-order
+use Rattle.rule.specs.InOrder as rule-order
 use Rattle.rule.proofs.Lists.{some-append}
 use Rattle.events.specs.declared.Event.{Event}
 use Rattle.account.specs.declared.Decision.{Decision}
@@ -26,7 +26,7 @@ use Rattle.account.specs.declared.weighing.Weighing.{Weighing}
 use Rattle.events.specs.Events.{guardOf, stateFits}
 use Rattle.account.specs.Panel.{panel}
 use Rattle.account.specs.Places.{RuleSlot, slotOf, decisionOf}
-use Rattle.account.specs.Order.{isUndecided, orderOf}
+use Rattle.account.specs.InOrder.{isUndecided, inOrderOf}
 use Rattle.account.specs.Weighing.{verdictOf, weighingOf}
 use Rattle.account.specs.Clauses.{isAccept, isHold, apartBeside, listed}
 
@@ -122,8 +122,8 @@ module _ (w : Weighing) (e : Event) (s : State) (xs : List RuleSlot) (decided : 
   stays = hold-same (w .verdict) ∙ ap (λ v. rule-order.staysHeld (v .verdict)) decided
 
 -- with nothing in progress and nothing held the clauses ask for the state alone
-pub order-idle : (s : State) → stateFits s ≡ rule-order.order panel (listed s [] [])
-unfolding rule-order.order
+pub order-idle : (s : State) → stateFits s ≡ rule-order.isInOrder panel (listed s [] [])
+unfolding rule-order.isInOrder
 order-idle s = go (stateFits s)
   where
     go : (b : Bool) → b ≡ (b && true && true && true && true && true)
@@ -136,8 +136,8 @@ pub order-lists : (s : State) (xs ys : List RuleSlot) → length xs ≤ 8 → le
     → (stateFits s && (apartBeside xs ys && apartBeside ys []) && every rule-order.withoutDecision ys && rule-order.guarded panel s [] xs
     && rule-order.oldestUndecided xs
     && last)
-    ≡ rule-order.order panel (listed s xs ys)
-unfolding rule-order.order
+    ≡ rule-order.isInOrder panel (listed s xs ys)
+unfolding rule-order.isInOrder
 order-lists s xs ys h k last f =
     rw (apart-alone ys, ← apart-both xs ys, le-leb (length xs) 8 h, le-leb (length ys) 8 k)
     (go (stateFits s && rule-order.apart (xs ++ ys) && every rule-order.withoutDecision ys) (rule-order.guarded panel s [] xs) (rule-order.oldestUndecided xs) f)
@@ -149,8 +149,8 @@ order-lists s xs ys h k last f =
     go false false oldest f′ = refl
 
 -- an account in order has its counts within limits
-pub order-counts : (a : Account) → orderOf a ≡ true → (a .progressing ≤ 8) × (a .holding ≤ 8)
-unfolding orderOf
+pub order-counts : (a : Account) → inOrderOf a ≡ true → (a .progressing ≤ 8) × (a .holding ≤ 8)
+unfolding inOrderOf
 order-counts a h = go (leb (a .progressing) 8) (leb (a .holding) 8) refl refl
   where
     go : (b c : Bool) → leb (a .progressing) 8 ≡ b → leb (a .holding) 8 ≡ c → (a .progressing ≤ 8) × (a .holding ≤ 8)

@@ -16,7 +16,7 @@ use Rattle.account.specs.declared.weighing.Verdict.the-variants.{Hold}
 use Rattle.account.specs.declared.weighing.Outcomes.{Outcomes}
 use Rattle.events.specs.Range.{rangeOf, everyIn, someIn}
 use Rattle.events.proofs.Answers.{outcomes-every, outcomes-some}
-use Rattle.account.specs.Panel.{room, bench, panel}
+use Rattle.account.specs.Panel.{progressLimit, heldLimit, panel}
 use Rattle.account.specs.Places.{used}
 use Rattle.account.specs.Weighing.{verdictOf, verdictBy}
 use Rattle.account.specs.Known.{Knows, Decides}
@@ -45,5 +45,5 @@ module _ (e : Event) (s : State) (n : ℕ) (places : List Slot) (fits : n ≤ le
         free = λ v. h;
         decided = λ g.
             let range : o .range ≡ rangeOf (outcomes panel (used places n) s) = k .range (k .guards ∙ g) in
-            rw (count, lt-leb 8 n h, by-tests (everyIn e (o .range)) (someIn e (o .range)), range, outcomes-every room bench s (used places n) e, outcomes-some room bench s (used places n) e, k .number);
+            rw (count, lt-leb 8 n h, by-tests (everyIn e (o .range)) (someIn e (o .range)), range, outcomes-every progressLimit heldLimit s (used places n) e, outcomes-some progressLimit heldLimit s (used places n) e, k .number);
       }

@@ -10,10 +10,10 @@ use Rattle.rule.specs.Outcome.{outcomes}
 use Rattle.rule.specs.Weigh.{decide}
 use Rattle.rule.specs.Step.{mark, without}
 use Rattle.rule.specs.Call.{namedCommitted}
-use Rattle.rule.specs.Order.{guarded, oldestUndecided}
+use Rattle.rule.specs.InOrder.{guarded, oldestUndecided}
 use Rattle.rule.proofs.Ways.{every-way}
 use Rattle.rule.proofs.Safe.{Safe, safe-mark, safe-without, safe-accept, safe-guarded, guarded-safe}
-use Rattle.rule.proofs.Order.{order-clauses}
+use Rattle.rule.proofs.InOrder.{order-clauses}
 use Rattle.events.specs.declared.Event.{Event}
 use Rattle.events.specs.declared.State.{State}
 use Rattle.account.specs.declared.Decision.{Decision}
@@ -27,7 +27,7 @@ use Rattle.account.specs.declared.weighing.Weighing.{Weighing}
 use Rattle.events.specs.Events.{guardOf, effectOf}
 use Rattle.account.specs.Panel.{panel}
 use Rattle.account.specs.Places.{RuleSlot, decisionOf, slotOf, listsOf}
-use Rattle.account.specs.Order.{orderOf}
+use Rattle.account.specs.InOrder.{inOrderOf}
 use Rattle.account.specs.Weighing.{verdictOf, weighingOf}
 use Rattle.account.specs.Clauses.{isAccept}
 use Rattle.account.specs.Rows.{listOf, rowOf}
@@ -40,7 +40,7 @@ use Rattle.account.proofs.Ordered.{order-rule}
 safe : (s : State) (xs : List RuleSlot) → guarded panel s [] xs ≡ true → Safe panel xs s
 safe s xs h = guarded-safe panel s [] xs tt h
 
-module _ (a : Account) (h : orderOf a ≡ true) where
+module _ (a : Account) (h : inOrderOf a ≡ true) where
   pub order-guarded : guarded panel (a .state) [] (listsOf a .progress) ≡ true
   unfolding listsOf
   order-guarded = order-clauses panel (listsOf a) (order-rule a h) .guards

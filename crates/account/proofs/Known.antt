@@ -11,7 +11,7 @@ use lib.Pow.{pow-mono}
 use Rattle.rule.specs.Rule as rule
 use Rattle.rule.specs.Lists.{every}
 use Rattle.rule.specs.Outcome.{undecidedOf, outcomes}
-use Rattle.rule.specs.Order.{guarded}
+use Rattle.rule.specs.InOrder.{guarded}
 use Rattle.rule.proofs.Lists.{and-left, and-right}
 use Rattle.rule.proofs.Outcomes.{outcomes-length}
 use Rattle.events.specs.declared.Event.{Event}
@@ -23,11 +23,11 @@ use Rattle.events.proofs.States.{formed, range-one}
 use Rattle.events.proofs.Newest.{outcomes-past, outcomes-more, guarded-more}
 use Rattle.events.proofs.Answers.{outcomes-every, outcomes-after, outcomes-perhaps}
 use Rattle.account.specs.declared.weighing.Outcomes.{Outcomes}
-use Rattle.account.specs.Panel.{room, bench, panel}
+use Rattle.account.specs.Panel.{progressLimit, heldLimit, panel}
 use Rattle.account.specs.declared.Decision.{Decision}
 use Rattle.account.specs.declared.Decision.the-variants.{Undecided, Committed}
 use Rattle.account.specs.Places.{RuleSlot, decisionOf}
-use Rattle.account.specs.Order.{isUndecided}
+use Rattle.account.specs.InOrder.{isUndecided}
 use Rattle.account.specs.Known.{Knows}
 
 abbrev known : Range → ℕ → Bool → Outcomes
@@ -53,7 +53,7 @@ module _ (s : State) (xs : List RuleSlot) (o : Outcomes) (k : Knows s xs o) (t g
   guards-next d = go (o .guarded) refl ∙ sym (guarded-more panel s [] xs t g e d)
     where
       go : (b : Bool) → o .guarded ≡ b → (b && everyIn e (o .range)) ≡ (guarded panel s [] xs && every (guardOf e) (outcomes panel xs s))
-      go true h = rw (sym (k .guards) ∙ h, k .range h) (outcomes-every room bench s xs e)
+      go true h = rw (sym (k .guards) ∙ h, k .range h) (outcomes-every progressLimit heldLimit s xs e)
       go false h = rw (sym (k .guards) ∙ h)
 
   module _ (h : (o .guarded && everyIn e (o .range)) ≡ true) where
@@ -64,7 +64,7 @@ module _ (s : State) (xs : List RuleSlot) (o : Outcomes) (k : Knows s xs o) (t g
     ordered = rw known-range (formed (outcomes panel xs s) .ordered)
 
     holds-all : every (guardOf e) (outcomes panel xs s) ≡ true
-    holds-all = sym (outcomes-every room bench s xs e) ∙ ap (everyIn e) (sym known-range) ∙ and-right (o .guarded) (everyIn e (o .range)) h
+    holds-all = sym (outcomes-every progressLimit heldLimit s xs e) ∙ ap (everyIn e) (sym known-range) ∙ and-right (o .guarded) (everyIn e (o .range)) h
 
   module _ (d : Decision) (x : Range) (all : Bool) (tells : all ≡ everyIn e (o .range)) where
     -- decided: in every outcome it is applied,
@@ -77,7 +77,7 @@ module _ (s : State) (xs : List RuleSlot) (o : Outcomes) (k : Knows s xs o) (t g
           guards = guards-next rule.committed;
           range = λ h.
               f (ordered h) (and-right (o .guarded) (everyIn e (o .range)) h) ∙ ap (rangeAfter e) (known-range h)
-              ∙ outcomes-after room bench s xs t g e (holds-all h);
+              ∙ outcomes-after progressLimit heldLimit s xs t g e (holds-all h);
         })
 
     -- undecided: in one half of them
@@ -92,7 +92,7 @@ module _ (s : State) (xs : List RuleSlot) (o : Outcomes) (k : Knows s xs o) (t g
           guards = guards-next rule.undecided;
           range = λ h.
               f (ordered h) (and-right (o .guarded) (everyIn e (o .range)) h) ∙ ap (rangePerhaps e) (known-range h)
-              ∙ outcomes-perhaps room bench s xs t g e (holds-all h);
+              ∙ outcomes-perhaps progressLimit heldLimit s xs t g e (holds-all h);
         })
 
 -- no more events are undecided than there are, so that of fewer than 8 there are at most 128 outcomes

@@ -1,6 +1,6 @@
 pub mod Panel
 pub mod Cases
-pub mod OrderCases
+pub mod InOrderCases
 pub mod Slices
 pub mod Known
 pub mod Decided
@@ -18,5 +18,5 @@ pub mod Kept
 pub mod Answers
 pub mod Table
 pub mod Promises
-pub mod InOrder
+pub mod InOrderExactly
 pub mod Forms

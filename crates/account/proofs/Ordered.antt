@@ -10,15 +10,15 @@ use lib.ListN.{length, take, drop, replicate, take-append-drop, length-drop}
 use borrow.Author.Tests.{leb-true, eqb-true}
 use Rattle.rule.specs.Lists.{every}
 use Rattle.rule.proofs.Lists.{and-left, and-right}
-use Rattle.rule.proofs.Order.{order-clauses}
-use Rattle.rule.specs.Order as rule
+use Rattle.rule.proofs.InOrder.{order-clauses}
+use Rattle.rule.specs.InOrder as rule
 use Rattle.account.specs.declared.Decision.{Decision}
 use Rattle.account.specs.declared.Decision.the-variants.{Undecided, Committed}
 use Rattle.account.specs.declared.Slot.{Slot}
 use Rattle.account.specs.declared.Account.{Account}
-use Rattle.account.specs.Panel.{panel, room, bench}
+use Rattle.account.specs.Panel.{panel, progressLimit, heldLimit}
 use Rattle.account.specs.Places.{blank, used, padded, listsOf, accountOf}
-use Rattle.account.specs.Order.{isUndecided, isBlank, orderOf}
+use Rattle.account.specs.InOrder.{isUndecided, isBlank, inOrderOf}
 use Rattle.events.specs.Events.{isBlankEvent}
 use Rattle.events.proofs.Table.{blank-is-open-zero}
 use Rattle.account.proofs.Padded.{places-slots}
@@ -61,46 +61,46 @@ padded-places size places n many h blanks =
     (blank-places (drop n places) blanks ∙ ap (λ (k : ℕ). replicate k blank) (left ∙ ap (λ (k : ℕ). size - k) (sym count)))
 
 -- an account whose counts are within its places and whose blanks are blank is the account of its lists
-account-lists : (a : Account) → length (a .progress) ≡ room → length (a .held) ≡ bench → a .progressing ≤ room → a .holding ≤ bench
+account-lists : (a : Account) → length (a .progress) ≡ progressLimit → length (a .held) ≡ heldLimit → a .progressing ≤ progressLimit → a .holding ≤ heldLimit
     → every isBlank (drop (a .progressing) (a .progress)) ≡ true → every isBlank (drop (a .holding) (a .held)) ≡ true → a ≡ accountOf (listsOf a)
 unfolding accountOf listsOf
 account-lists a p q few fewHeld blanks blanksHeld = λ i.
     record {
       state = a .state;
-      progress = padded-places room (a .progress) (a .progressing) p few blanks i;
+      progress = padded-places progressLimit (a .progress) (a .progressing) p few blanks i;
       progressing = sym (count-used (a .progress) (a .progressing) (omega arith)) i;
-      held = padded-places bench (a .held) (a .holding) q fewHeld blanksHeld i;
+      held = padded-places heldLimit (a .held) (a .holding) q fewHeld blanksHeld i;
       holding = sym (count-used (a .held) (a .holding) (omega arith)) i;
     }
 
 -- the rule's clauses
-pub order-rule : (a : Account) → orderOf a ≡ true → rule.order panel (listsOf a) ≡ true
-unfolding orderOf
+pub order-rule : (a : Account) → inOrderOf a ≡ true → rule.isInOrder panel (listsOf a) ≡ true
+unfolding inOrderOf
 order-rule a h =
     and-right
-    (leb (a .progressing) room && leb (a .holding) bench && every isBlank (drop (a .progressing) (a .progress)) && every isBlank (drop (a .holding) (a .held)))
-    (rule.order panel (listsOf a))
+    (leb (a .progressing) progressLimit && leb (a .holding) heldLimit && every isBlank (drop (a .progressing) (a .progress)) && every isBlank (drop (a .holding) (a .held)))
+    (rule.isInOrder panel (listsOf a))
     h
 
 -- what order says of an account's places and transactions
 pub record Ordered (a : Account) : Type 0 where
-  pub progressing : a .progressing ≤ room
-  pub holding : a .holding ≤ bench
+  pub progressing : a .progressing ≤ progressLimit
+  pub holding : a .holding ≤ heldLimit
   pub lists : a ≡ accountOf (listsOf a)
   pub transactions : rule.apart (listsOf a .progress ++ listsOf a .held) ≡ true
 
-pub ordered : (a : Account) → length (a .progress) ≡ room → length (a .held) ≡ bench → orderOf a ≡ true → Ordered a
-unfolding orderOf
+pub ordered : (a : Account) → length (a .progress) ≡ progressLimit → length (a .held) ≡ heldLimit → inOrderOf a ≡ true → Ordered a
+unfolding inOrderOf
 ordered a p q h =
-    let c1 = leb (a .progressing) room in
-    let c2 = leb (a .holding) bench in
+    let c1 = leb (a .progressing) progressLimit in
+    let c2 = leb (a .holding) heldLimit in
     let c3 = every isBlank (drop (a .progressing) (a .progress)) in
     let c4 = every isBlank (drop (a .holding) (a .held)) in
-    let h4 = and-left (c1 && c2 && c3 && c4) (rule.order panel (listsOf a)) h in
+    let h4 = and-left (c1 && c2 && c3 && c4) (rule.isInOrder panel (listsOf a)) h in
     let h3 = and-left (c1 && c2 && c3) c4 h4 in
     let h2 = and-left (c1 && c2) c3 h3 in
-    let few : a .progressing ≤ room = leb-true (a .progressing) room (and-left c1 c2 h2) in
-    let fewHeld : a .holding ≤ bench = leb-true (a .holding) bench (and-right c1 c2 h2) in
+    let few : a .progressing ≤ progressLimit = leb-true (a .progressing) progressLimit (and-left c1 c2 h2) in
+    let fewHeld : a .holding ≤ heldLimit = leb-true (a .holding) heldLimit (and-right c1 c2 h2) in
     record {
       progressing = few;
       holding = fewHeld;

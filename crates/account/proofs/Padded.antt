@@ -12,7 +12,7 @@ use Rattle.rule.specs.Rule as rule
 use Rattle.account.specs.declared.Decision.{Decision}
 use Rattle.account.specs.declared.Decision.the-variants.{Undecided, Committed}
 use Rattle.account.specs.declared.Slot.{Slot}
-use Rattle.account.specs.Panel.{room, bench}
+use Rattle.account.specs.Panel.{progressLimit, heldLimit}
 use Rattle.account.specs.Places.{RuleSlot, RuleAccount, decisionOf, decisionIn, slotOf, placeOf, blank, used, padded, listsOf, accountOf}
 use Rattle.account.proofs.Slot.{the-field}
 
@@ -49,7 +49,7 @@ used-padded size xs =
 -- the lists of the account of some lists are these lists
 pub lists-account : (a : RuleAccount) → listsOf (accountOf a) ≡ a
 unfolding listsOf accountOf
-lists-account a = λ i. record { state = a .state; progress = used-padded room (a .progress) i; held = used-padded bench (a .held) i }
+lists-account a = λ i. record { state = a .state; progress = used-padded progressLimit (a .progress) i; held = used-padded heldLimit (a .held) i }
 
 -- what is put in the first free place is the list's next element; `padded` and the entries of a call are both of this form
 module _ {X A : Type 0} (f : X → A) where

@@ -7,17 +7,17 @@ use mathlib.Core.List.{List}
 use lib.Dec.{lit≤}
 use Rattle.rule.specs.Rule.{Account, Message, newAccount}
 use Rattle.rule.specs.Call.{call, reached}
-use Rattle.rule.specs.Order.{Sound, InOrder, order}
+use Rattle.rule.specs.InOrder.{Sound, InOrder, isInOrder}
 use Rattle.rule.specs.Demand.{Demand3After}
-use Rattle.rule.proofs.Order.{reached-clauses, call-order}
+use Rattle.rule.proofs.InOrder.{reached-clauses, call-order}
 use Rattle.rule.proofs.Demand.{demand3}
 use Rattle.events.specs.declared.Event.{Event}
 use Rattle.events.specs.declared.State.{State}
 use Rattle.events.proofs.Panel as events
-use Rattle.account.specs.Panel.{room, bench, panel}
+use Rattle.account.specs.Panel.{progressLimit, heldLimit, panel}
 
 pub sound : Sound panel
-sound = events.sound room bench
+sound = events.sound progressLimit heldLimit
 
 -- every account reached from fresh is in order,
 pub panel-order : (ms : List (Message ℕ Event)) → InOrder panel (reached panel (newAccount panel ℕ) ms)

@@ -29,7 +29,7 @@ use Rattle.account.specs.declared.Answer.the-variants as Answer′
 use Rattle.account.specs.declared.Outlook.the-variants as Outlook′
 use Rattle.account.specs.Panel.{panel, tablePanel}
 use Rattle.account.specs.Places.{slotOf, decisionOf, listsOf}
-use Rattle.account.specs.Order.{orderOf}
+use Rattle.account.specs.InOrder.{inOrderOf}
 use Rattle.account.specs.Steps.{RuleEntry, given, entryOf, most, blankEntry, entriesOf, refusedBy, stepOf, outlookOf}
 use Rattle.account.specs.Taken.{takenAs}
 use Rattle.account.specs.Promises.{questionTests, QuestionAnswered, isCommitted, stands, standsCommitted, stepTests, QuestionPromise, StepPromise}
@@ -60,7 +60,7 @@ module _ (a : Account) (n : ℕ) where
         told = λ h. rw e;
       }
 
-  by-tests : (o b : Bool) → orderOf a ≡ o → ltb n (2 ^ undecidedOf (listsOf a .progress)) ≡ b → QuestionAnswered a n
+  by-tests : (o b : Bool) → inOrderOf a ≡ o → ltb n (2 ^ undecidedOf (listsOf a .progress)) ≡ b → QuestionAnswered a n
   unfolding outlookOf listsOf
   by-tests false b p q = refused 5 (rw p) (rw p)
   by-tests true false p q = refused 12 (rw (p, q)) (rw (p, q))
@@ -71,7 +71,7 @@ module _ (a : Account) (n : ℕ) where
       (rw (p, q))
 
 pub question-promise : QuestionPromise
-question-promise a n = by-tests a n (orderOf a) (ltb n (2 ^ undecidedOf (listsOf a .progress))) refl refl
+question-promise a n = by-tests a n (inOrderOf a) (ltb n (2 ^ undecidedOf (listsOf a .progress))) refl refl
 
 -- a step's answer by the rule's refusal
 module _ (a : Account) (m : rule.Message ℕ Event) where
@@ -79,9 +79,9 @@ module _ (a : Account) (m : rule.Message ℕ Event) where
   given-by none = refl
   given-by (some n) = refl
 
-  pub step-given : given (stepOf a m .answer) ≡ cond (not (orderOf a)) (some 5) (rule-call.refusal panel (listsOf a) m)
+  pub step-given : given (stepOf a m .answer) ≡ cond (not (inOrderOf a)) (some 5) (rule-call.refusal panel (listsOf a) m)
   unfolding stepOf rule-call.call
-  step-given = go (orderOf a)
+  step-given = go (inOrderOf a)
     where
       go : (b : Bool) → given (cond b (by a m (rule-call.refusal panel (listsOf a) m)) (refusedBy a 5) .answer) ≡ cond (not b) (some 5) (rule-call.refusal panel (listsOf a) m)
       go true = given-by (rule-call.refusal panel (listsOf a) m)
@@ -90,7 +90,7 @@ module _ (a : Account) (m : rule.Message ℕ Event) where
   -- a step that is not refused is the rule's, in places
   pub step-taken : given (stepOf a m .answer) ≡ none → stepOf a m ≡ takenAs (record { account = rule-call.call panel (listsOf a) m .account; entries = rule-call.written (rule-call.call panel (listsOf a) m .answer) })
   unfolding stepOf rule-call.call takenAs
-  step-taken h = go (orderOf a) (rule-call.refusal panel (listsOf a) m) (sym step-given ∙ h)
+  step-taken h = go (inOrderOf a) (rule-call.refusal panel (listsOf a) m) (sym step-given ∙ h)
     where
       go : (b : Bool) (o : Option ℕ) → cond (not b) (some 5) o ≡ none
           → cond b (by a m o) (refusedBy a 5)
@@ -121,7 +121,7 @@ module _ (t : ℕ) (places : List Slot) (count : ℕ) where
   stands-committed = some-map (rule-call.namedCommitted t) slotOf (take count places) ∙ ap (λ (p : Slot → Bool). some-of p (take count places)) (fun-ext committed-test)
 
 -- so the rule's refusals are the tests behind the first
-first-test : (a : Account) (m : rule.Message ℕ Event) → cond (not (orderOf a)) (some 5) (rule-call.refusal panel (listsOf a) m) ≡ firstOf (stepTests a m)
+first-test : (a : Account) (m : rule.Message ℕ Event) → cond (not (inOrderOf a)) (some 5) (rule-call.refusal panel (listsOf a) m) ≡ firstOf (stepTests a m)
 unfolding listsOf
 first-test a (rule.request t g e) =
     rw (stands-named t (a .progress) (a .progressing), stands-named t (a .held) (a .holding), length-map (take (a .holding) (a .held)) slotOf)

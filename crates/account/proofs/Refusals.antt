@@ -11,14 +11,14 @@ use Rattle.rule.specs.Lists.{some-of}
 use Rattle.rule.specs.Rule as rule
 use Rattle.rule.specs.Step.{named, mark, without, dropping, after, settle, asked, committing, aborting, step}
 use Rattle.rule.specs.Call.{namedCommitted, refusal, call}
-use Rattle.rule.specs.Order.{guarded}
+use Rattle.rule.specs.InOrder.{guarded}
 use Rattle.events.specs.declared.Event.{Event}
 use Rattle.account.specs.declared.Account.{Account}
 use Rattle.account.specs.declared.places.Row.{Row}
 use Rattle.account.specs.declared.steps.Sought.{Sought}
 use Rattle.account.specs.Panel.{panel}
 use Rattle.account.specs.Places.{RuleSlot, slotOf, listsOf}
-use Rattle.account.specs.Order.{orderOf}
+use Rattle.account.specs.InOrder.{inOrderOf}
 use Rattle.account.specs.Steps.{refusedBy, stepOf}
 use Rattle.account.specs.Rows.{row, listOf, rowOf}
 use Rattle.account.specs.Taken.{takenAs, Seeks}
@@ -27,20 +27,20 @@ use Rattle.account.proofs.Guarded.{marked-guarded, without-guarded}
 
 -- a step by its refusal
 module _ (a : Account) (m : rule.Message ℕ Event) where
-  pub out-of-order : orderOf a ≡ false → refusedBy a 5 ≡ stepOf a m
+  pub out-of-order : inOrderOf a ≡ false → refusedBy a 5 ≡ stepOf a m
   unfolding stepOf
   out-of-order h = rw h
 
-  refused-step : orderOf a ≡ true → (n : ℕ) → refusal panel (listsOf a) m ≡ some n → refusedBy a n ≡ stepOf a m
+  refused-step : inOrderOf a ≡ true → (n : ℕ) → refusal panel (listsOf a) m ≡ some n → refusedBy a n ≡ stepOf a m
   unfolding stepOf call
   refused-step ok n h = rw (ok, h)
 
-  taken-step : orderOf a ≡ true → refusal panel (listsOf a) m ≡ none → takenAs (step panel (listsOf a) m) ≡ stepOf a m
+  taken-step : inOrderOf a ≡ true → refusal panel (listsOf a) m ≡ none → takenAs (step panel (listsOf a) m) ≡ stepOf a m
   unfolding stepOf call takenAs
   taken-step ok h = rw (ok, h)
 
 -- each way out of a step, by what the account has of the transaction
-module _ (a : Account) (t : ℕ) (s : Sought) (seeks : Seeks a t s) (ok : orderOf a ≡ true) (g : ℕ) where
+module _ (a : Account) (t : ℕ) (s : Sought) (seeks : Seeks a t s) (ok : inOrderOf a ≡ true) (g : ℕ) where
   sought : (b : Bool) → s .named ≡ b → (some-of (named t) (listsOf a .progress) || some-of (named t) (listsOf a .held)) ≡ b
   sought b h = sym (seeks .named) ∙ h
 

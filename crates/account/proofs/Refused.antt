@@ -15,13 +15,13 @@ use Rattle.account.specs.declared.Answer.the-variants as Answer′
 use Rattle.account.specs.declared.Called.{Called}
 use Rattle.account.specs.Panel.{panel}
 use Rattle.account.specs.Places.{listsOf}
-use Rattle.account.specs.Order.{orderOf}
+use Rattle.account.specs.InOrder.{inOrderOf}
 use Rattle.account.specs.Steps.{refusedBy, calledBy, stepOf}
 
 -- why a step is refused with a number: 5 by the account's order, any other by the rule
 pub data Because (a : Account) (m : rule.Message ℕ Event) (n : ℕ) : Type 0 where
-  disorder : orderOf a ≡ false → n ≡ 5 → Because a m n
-  rule-says : orderOf a ≡ true → rule-call.refusal panel (listsOf a) m ≡ some n → Because a m n
+  disorder : inOrderOf a ≡ false → n ≡ 5 → Because a m n
+  rule-says : inOrderOf a ≡ true → rule-call.refusal panel (listsOf a) m ≡ some n → Because a m n
 
 module _ (a : Account) (m : rule.Message ℕ Event) where
   -- the rule's call by its refusal
@@ -42,9 +42,9 @@ module _ (a : Account) (m : rule.Message ℕ Event) where
 
   refusal-why : (n : ℕ) → stepOf a m .answer ≡ Answer′.Refused n → Because a m n
   unfolding stepOf rule-call.call
-  refusal-why n h = why (orderOf a) refl h
+  refusal-why n h = why (inOrderOf a) refl h
     where
-      why : (b : Bool) → orderOf a ≡ b → cond b (by (rule-call.refusal panel (listsOf a) m)) (refusedBy a 5) .answer ≡ Answer′.Refused n → Because a m n
+      why : (b : Bool) → inOrderOf a ≡ b → cond b (by (rule-call.refusal panel (listsOf a) m)) (refusedBy a 5) .answer ≡ Answer′.Refused n → Because a m n
       why true o k = rule-says o (by-refused (rule-call.refusal panel (listsOf a) m) n k)
       why false o k = disorder o (let z : n ≡ 5 = cc in z)
 
@@ -60,7 +60,7 @@ module _ (a : Account) (m : rule.Message ℕ Event) where
   -- a refusal returns its number, the account that came in, and no entries
   pub refusal-same : (n : ℕ) → stepOf a m .answer ≡ Answer′.Refused n → stepOf a m ≡ refusedBy a n
   unfolding stepOf rule-call.call
-  refusal-same n h = same (orderOf a) h
+  refusal-same n h = same (inOrderOf a) h
     where
       same : (b : Bool) → cond b (by (rule-call.refusal panel (listsOf a) m)) (refusedBy a 5) .answer ≡ Answer′.Refused n
           → cond b (by (rule-call.refusal panel (listsOf a) m)) (refusedBy a 5) ≡ refusedBy a n

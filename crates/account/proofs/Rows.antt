@@ -15,7 +15,7 @@ use Rattle.account.specs.declared.Slot.{Slot}
 use Rattle.account.specs.declared.Account.{Account}
 use Rattle.account.specs.declared.places.Row.{Row}
 use Rattle.account.specs.declared.places.Found.the-variants.{At, Nothing}
-use Rattle.account.specs.Panel.{room}
+use Rattle.account.specs.Panel.{progressLimit}
 use Rattle.account.specs.Places.{RuleSlot, slotOf, placeOf, blank, used, padded, listsOf, accountOf}
 use Rattle.account.specs.Rows.{listOf, rowOf, foundIn}
 use Rattle.account.proofs.Padded.{place-slot, used-padded, fill-next}
@@ -25,19 +25,19 @@ row-path : {a b : Row} → a .slots ≡ b .slots → a .count ≡ b .count → a
 row-path p q = λ i. record { slots = p i; count = q i }
 
 -- a row of a list, with one place more
-pub row-with : (row : Row) (place : Slot) (xs : List RuleSlot) → row .count < room → row ≡ rowOf xs
+pub row-with : (row : Row) (place : Slot) (xs : List RuleSlot) → row .count < progressLimit → row ≡ rowOf xs
     → _≡_ {A = Row} (record { slots = set (row .slots) (row .count) place; count = row .count + 1 }) (rowOf (xs ++ (slotOf place ∷ [])))
 unfolding rowOf
 row-with row place xs h e =
     rw e
     (row-path
-    (ap (set (padded room xs) (length xs)) (sym (place-slot place)) ∙ fill-next placeOf blank room xs (slotOf place) (rw e at h))
+    (ap (set (padded progressLimit xs) (length xs)) (sym (place-slot place)) ∙ fill-next placeOf blank progressLimit xs (slotOf place) (rw e at h))
     (sym (length-append xs (slotOf place ∷ []))))
 
 -- the list of a row of a list is the list
 pub row-list : (row : Row) (xs : List RuleSlot) → row ≡ rowOf xs → listOf row ≡ xs
 unfolding rowOf
-row-list row xs e = ap listOf e ∙ used-padded room xs
+row-list row xs e = ap listOf e ∙ used-padded progressLimit xs
 
 pub row-count : (row : Row) (xs : List RuleSlot) → row ≡ rowOf xs → row .count ≡ length xs
 unfolding rowOf

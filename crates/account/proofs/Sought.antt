@@ -10,7 +10,7 @@ use Rattle.rule.specs.Lists.{some-of, keep}
 use Rattle.rule.specs.Rule as rule
 use Rattle.rule.specs.Step.{named}
 use Rattle.rule.specs.Call.{namedCommitted}
-use Rattle.rule.specs.Order.{apart}
+use Rattle.rule.specs.InOrder.{apart}
 use Rattle.rule.proofs.Lists.{and-left, and-right, or-left, or-right, or-neither, keep-append, keep-none}
 use Rattle.rule.proofs.Apart.{apart-left}
 use Rattle.events.specs.declared.Event.{Event}
@@ -19,7 +19,7 @@ use Rattle.account.specs.declared.Account.{Account}
 use Rattle.account.specs.declared.places.Found.{Found}
 use Rattle.account.specs.declared.places.Found.the-variants.{At, Nothing}
 use Rattle.account.specs.Places.{RuleSlot, decisionIn, slotOf, placeOf, used, listsOf}
-use Rattle.account.specs.Order.{isUndecided}
+use Rattle.account.specs.InOrder.{isUndecided}
 use Rattle.account.specs.Rows.{foundIn, isFound, isCommittedAt, foundOr, placeAt}
 use Rattle.account.proofs.Padded.{slot-place}
 

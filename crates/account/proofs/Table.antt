@@ -5,7 +5,7 @@ use Rattle.rule.proofs.Exact.{numbered}
 use Rattle.rule.proofs.Safe.{Safe, guarded-safe}
 use Rattle.events.proofs.Table as events
 use Rattle.events.proofs.Panel.{outcome-table}
-use Rattle.account.specs.Panel.{room, bench, panel, tablePanel}
+use Rattle.account.specs.Panel.{progressLimit, heldLimit, panel, tablePanel}
 use Rattle.account.specs.Places.{listsOf}
 use Rattle.account.specs.Table.{TableHolds, OutcomesOfTheTable}
 use Rattle.account.proofs.Guarded.{order-guarded}
@@ -16,5 +16,5 @@ table-holds s a = record { panel′ = refl; tablePanel′ = refl; rows = events.
 pub outcomes-of-the-table : OutcomesOfTheTable
 outcomes-of-the-table a h n =
     let safe : Safe panel (listsOf a .progress) (a .state) = guarded-safe panel (a .state) _ (listsOf a .progress) tt (order-guarded a h) in
-    let same = sym (outcome-table room bench (listsOf a .progress) n (a .state) safe) in
+    let same = sym (outcome-table progressLimit heldLimit (listsOf a .progress) n (a .state) safe) in
     (same, same ∙ numbered tablePanel (listsOf a .progress) (a .state) .bits n)

@@ -12,7 +12,7 @@ use Rattle.rule.specs.Rule as rule
 use Rattle.rule.specs.Weigh.{decide, decideBehind}
 use Rattle.rule.specs.Weigh as rule-weigh
 use Rattle.rule.specs.Step.{Step, after, still, drainBy, drain, settle, askedBy, asked}
-use Rattle.rule.specs.Order.{guarded, oldestUndecided}
+use Rattle.rule.specs.InOrder.{guarded, oldestUndecided}
 use Rattle.events.specs.declared.Event.{Event}
 use Rattle.events.specs.declared.State.{State}
 use Rattle.account.specs.declared.Decision.{Decision}

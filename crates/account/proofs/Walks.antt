@@ -26,7 +26,7 @@ use Rattle.account.specs.declared.question.Reached.{Reached}
 use Rattle.events.specs.Events.{effectOf}
 use Rattle.account.specs.Panel.{panel}
 use Rattle.account.specs.Places.{RuleSlot, decisionOf, used, listsOf}
-use Rattle.account.specs.Order.{isUndecided, orderOf}
+use Rattle.account.specs.InOrder.{isUndecided, inOrderOf}
 use Rattle.account.specs.Steps.{outlookOf}
 use Rattle.account.specs.Reached.{reached, followed, reachedOf}
 use Rattle.account.proofs.Slices.{usedFrom, used-end, used-next}
@@ -75,11 +75,11 @@ above n u h = let enough : 1 * 2 ^ u ≤ n = le-div-iff-mul-le (pow-pos u) .0 h 
 
 module _ (a : Account) (n : ℕ) where
   -- 5: the account is not in order
-  pub outlook-order : orderOf a ≡ false → Outlook′.Refused 5 ≡ outlookOf a n
+  pub outlook-order : inOrderOf a ≡ false → Outlook′.Refused 5 ≡ outlookOf a n
   unfolding outlookOf
   outlook-order h = rw h
 
-  module _ (h : orderOf a ≡ true) where
+  module _ (h : inOrderOf a ≡ true) where
     abbrev xs : List RuleSlot
     xs = used (a .progress) (a .progressing)
 

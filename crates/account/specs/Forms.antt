@@ -19,7 +19,7 @@ use Rattle.account.specs.declared.Entries.{Entries}
 use Rattle.account.specs.declared.Answer.the-variants as Answer′
 use Rattle.account.specs.declared.Outlook.the-variants as Outlook′
 use Rattle.account.specs.Places.{RuleSlot, RuleAccount, slotOf, placeOf, listsOf, accountOf}
-use Rattle.account.specs.Order.{orderOf}
+use Rattle.account.specs.InOrder.{inOrderOf}
 use Rattle.account.specs.Steps.{RuleEntry, given, toldOf, entryOf, entriesOf}
 
 -- each field of a slot in the place's own
@@ -44,7 +44,7 @@ pub record AccountForm (a : RuleAccount) : Type 0 where
 
 -- an account in order is the account of its lists
 abbrev pub NothingElse : Type 0
-NothingElse = (a : Account) → length (a .progress) ≡ 8 → length (a .held) ≡ 8 → orderOf a ≡ true → accountOf (listsOf a) ≡ a
+NothingElse = (a : Account) → length (a .progress) ≡ 8 → length (a .held) ≡ 8 → inOrderOf a ≡ true → accountOf (listsOf a) ≡ a
 
 -- an entry of each kind
 pub record EntryForm (t g : ℕ) (e : Event) (n : ℕ) : Type 0 where

@@ -11,16 +11,16 @@ abbrev pub rowPlaces : ℕ
 rowPlaces = 8
 
 -- how many events may be in progress and how many requests held: as many as there are places
-abbrev pub room : ℕ
-room = rowPlaces
+abbrev pub progressLimit : ℕ
+progressLimit = rowPlaces
 
-abbrev pub bench : ℕ
-bench = rowPlaces
+abbrev pub heldLimit : ℕ
+heldLimit = rowPlaces
 
 -- the commit rule of the first panel,
 abbrev pub panel : Rule State Event ℕ
-panel = firstPanel room bench
+panel = firstPanel progressLimit heldLimit
 
 -- and the same with the table's effects as they stand: where every guard holds the two have the same outcomes
 abbrev pub tablePanel : Rule State Event ℕ
-tablePanel = firstTable room bench
+tablePanel = firstTable progressLimit heldLimit

@@ -11,7 +11,7 @@ use Rattle.account.specs.declared.Decision.the-variants.{Undecided, Comm
 use Rattle.events.specs.declared.State.{State}
 use Rattle.account.specs.declared.Slot.{Slot}
 use Rattle.account.specs.declared.Account.{Account}
-use Rattle.account.specs.Panel.{room, bench}
+use Rattle.account.specs.Panel.{progressLimit, heldLimit}
 
 -- what is filed with an event is its second
 abbrev pub RuleSlot : Type 0
@@ -57,8 +57,8 @@ unfoldable pub accountOf : RuleAccount → Account
 accountOf a =
     record {
       state = a .state;
-      progress = padded room (a .progress);
+      progress = padded progressLimit (a .progress);
       progressing = length (a .progress);
-      held = padded bench (a .held);
+      held = padded heldLimit (a .held);
       holding = length (a .held);
     }

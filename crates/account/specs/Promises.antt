@@ -22,13 +22,13 @@ use Rattle.account.specs.declared.Account.{Account}
 use Rattle.account.specs.declared.Told.the-variants.{Noted}
 use Rattle.account.specs.Panel.{panel, tablePanel}
 use Rattle.account.specs.Places.{listsOf}
-use Rattle.account.specs.Order.{orderOf}
+use Rattle.account.specs.InOrder.{inOrderOf}
 use Rattle.account.specs.Steps.{given, toldOf, entryOf, stepOf, outlookOf}
 use Rattle.account.specs.Tests.{Test, test, firstOf}
 
 -- the outcome question: 5, then 12
 abbrev pub questionTests : Account → ℕ → List Test
-questionTests a n = test (not (orderOf a)) 5 ∷ test (not (ltb n (2 ^ undecidedOf (listsOf a .progress)))) 12 ∷ []
+questionTests a n = test (not (inOrderOf a)) 5 ∷ test (not (ltb n (2 ^ undecidedOf (listsOf a .progress)))) 12 ∷ []
 
 pub record QuestionAnswered (a : Account) (n : ℕ) : Type 0 where
   pub refusal : toldOf (outlookOf a n) .refusal ≡ firstOf (questionTests a n)
@@ -63,11 +63,11 @@ module _ (a : Account) where
 
   abbrev pub stepTests : rule.Message ℕ Event → List Test
   stepTests (rule.request t g e) =
-      test (not (orderOf a)) 5 ∷ test (inProgress t || onHold t) 6 ∷ test (leb 8 (length (take (a .holding) (a .held)))) 7 ∷ []
+      test (not (inOrderOf a)) 5 ∷ test (inProgress t || onHold t) 6 ∷ test (leb 8 (length (take (a .holding) (a .held)))) 7 ∷ []
   stepTests (rule.commit t g) =
-      test (not (orderOf a)) 5 ∷ test (not (inProgress t || onHold t)) 8 ∷ test (onHold t) 9 ∷ test (committedThere t) 10 ∷ []
+      test (not (inOrderOf a)) 5 ∷ test (not (inProgress t || onHold t)) 8 ∷ test (onHold t) 9 ∷ test (committedThere t) 10 ∷ []
   stepTests (rule.abort t g) =
-      test (not (orderOf a)) 5 ∷ test (not (inProgress t || onHold t)) 8 ∷ test (committedThere t) 11 ∷ []
+      test (not (inOrderOf a)) 5 ∷ test (not (inProgress t || onHold t)) 8 ∷ test (committedThere t) 11 ∷ []
 
 pub record StepAnswered (a : Account) (m : rule.Message ℕ Event) : Type 0 where
   pub refusal : given (stepOf a m .answer) ≡ firstOf (stepTests a m)

@@ -11,7 +11,7 @@ use Rattle.account.specs.declared.question.Reached.{Reached}
 use Rattle.events.specs.Events.{effectOf}
 use Rattle.account.specs.Panel.{panel}
 use Rattle.account.specs.Places.{RuleSlot}
-use Rattle.account.specs.Order.{isUndecided}
+use Rattle.account.specs.InOrder.{isUndecided}
 
 abbrev pub reached : State → ℕ → Reached
 reached s n = record { state = s; left = n }

@@ -11,9 +11,9 @@ use Rattle.account.specs.declared.Slot.{Slot}
 use Rattle.account.specs.declared.places.Row.{Row}
 use Rattle.account.specs.declared.places.Found.{Found}
 use Rattle.account.specs.declared.places.Found.the-variants.{At, Nothing}
-use Rattle.account.specs.Panel.{room}
+use Rattle.account.specs.Panel.{progressLimit}
 use Rattle.account.specs.Places.{RuleSlot, slotOf, placeOf, blank, used, padded}
-use Rattle.account.specs.Order.{isUndecided}
+use Rattle.account.specs.InOrder.{isUndecided}
 
 -- the row of these places, so many of them used
 abbrev pub row : List Slot → ℕ → Row
@@ -29,7 +29,7 @@ listFrom first row = map slotOf (slice first (row .count) (row .slots))
 
 -- and the row that has these
 unfoldable pub rowOf : List RuleSlot → Row
-rowOf xs = record { slots = padded room xs; count = length xs }
+rowOf xs = record { slots = padded progressLimit xs; count = length xs }
 
 -- the row with one place more: of a row that is its list's, the row of the longer list
 pub record Longer (row : Row) (place : Slot) (r : Row) : Type 0 where

@@ -22,9 +22,9 @@ use Rattle.account.specs.declared.Answer.the-variants as Answer′
 use Rattle.account.specs.declared.Called.{Called}
 use Rattle.account.specs.declared.Outlook.{Outlook}
 use Rattle.account.specs.declared.Outlook.the-variants as Outlook′
-use Rattle.account.specs.Panel.{panel, room, bench}
+use Rattle.account.specs.Panel.{panel, progressLimit, heldLimit}
 use Rattle.account.specs.Places.{listsOf, accountOf}
-use Rattle.account.specs.Order.{orderOf}
+use Rattle.account.specs.InOrder.{inOrderOf}
 
 -- an entry of the rule, with the second filed and the balance shown
 abbrev pub RuleEntry : Type 0
@@ -49,7 +49,7 @@ entryOf (rule.dropped t g e) = record { transaction = t; second = g; told = Drop
 
 -- the entries of one call are its own, one for each event in progress and one for each request held, at most; a place that no entry takes is the blank one
 abbrev pub most : ℕ
-most = 1 + room + bench
+most = 1 + progressLimit + heldLimit
 
 abbrev pub blankEntry : Entry
 blankEntry = record { transaction = 0; second = 0; told = Noted }
@@ -69,7 +69,7 @@ calledBy a next (rule-call.taken xs) = record { answer = Answer′.Taken; accoun
 -- a step of an account: 5 if it is not in order, else the rule's call
 unfoldable pub stepOf : Account → rule.Message ℕ Event → Called
 stepOf a m =
-    cond (orderOf a)
+    cond (inOrderOf a)
     (calledBy a (rule-call.call panel (listsOf a) m .account) (rule-call.call panel (listsOf a) m .answer))
     (refusedBy a 5)
 
@@ -86,7 +86,7 @@ toldOf (Outlook′.State s n) = record { refusal = none; state = some s; applied
 -- the outcome question: 5, then 12 where there is no outcome of that number, else the answer (10.1, 11.2)
 unfoldable pub outlookOf : Account → ℕ → Outlook
 outlookOf a n =
-    cond (orderOf a)
+    cond (inOrderOf a)
     (cond (ltb n (2 ^ undecidedOf (listsOf a .progress)))
     (Outlook′.State (outcome panel (listsOf a .progress) n (listsOf a .state)) (appliedIn (listsOf a .progress) n))
     (Outlook′.Refused 12))

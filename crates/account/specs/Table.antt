@@ -11,7 +11,7 @@ use Rattle.events.specs.Table.{Table}
 use Rattle.account.specs.declared.Account.{Account}
 use Rattle.account.specs.Panel.{panel, tablePanel}
 use Rattle.account.specs.Places.{listsOf}
-use Rattle.account.specs.Order.{orderOf}
+use Rattle.account.specs.InOrder.{inOrderOf}
 
 -- the panel, and the same with the table's effects, are those whose table is told row by row with the events
 pub record TableOfThePanel (s : State) (a : ℕ) : Type 0 where
@@ -24,6 +24,6 @@ TableHolds = (s : State) (a : ℕ) → TableOfThePanel s a
 
 -- on an account in order each outcome is the one that the table's effects lead to, by the bits of its number
 abbrev pub OutcomesOfTheTable : Type 0
-OutcomesOfTheTable = (a : Account) → orderOf a ≡ true → (n : ℕ)
+OutcomesOfTheTable = (a : Account) → inOrderOf a ≡ true → (n : ℕ)
     → (outcome panel (listsOf a .progress) n (a .state) ≡ outcome tablePanel (listsOf a .progress) n (a .state))
     × (outcome panel (listsOf a .progress) n (a .state) ≡ chosenState tablePanel (listsOf a .progress) (bit n) (a .state))

@@ -12,16 +12,16 @@ ghost use Prim.Native.Nat.{_≤_};
 ghost use lib.ListN.{drop};
 ghost use mathlib.Core.List.{[]};
 ghost use Rattle.rule.specs.Lists.{every};
-ghost use Rattle.rule.specs.Order as rule;
+ghost use Rattle.rule.specs.InOrder as rule;
 ghost use Rattle.account.specs.Panel.{panel, rowPlaces};
 ghost use Rattle.account.specs.Places.{used};
-ghost use Rattle.account.specs.Order.{isBlank, orderOf};
+ghost use Rattle.account.specs.InOrder.{isBlank, inOrderOf};
 ghost use Rattle.account.specs.Clauses.{isAccept, isHold, apartBeside, listed};
 
 impl Account {
     // Whether the account is in order; counts beyond the places are told first.
     pub fn in_order(self) -> bool
-        ensures { λ r. ⌜ r ≡ orderOf self ⌝ }
+        ensures { λ r. ⌜ r ≡ inOrderOf self ⌝ }
     {
         let progressing = self.progressing;
         let holding = self.holding;
@@ -49,7 +49,7 @@ fn lists_in_order(
     holding: usize,
 ) -> bool
     requires { ⌜ (progressing ≤ rowPlaces) × (holding ≤ rowPlaces) ⌝ }
-    ensures { λ r. ⌜ r ≡ rule.order panel (listed s (used progress progressing) (used held holding)) ⌝ }
+    ensures { λ r. ⌜ r ≡ rule.isInOrder panel (listed s (used progress progressing) (used held holding)) ⌝ }
 {
     if progressing + holding == 0 {
         return s.fits();

@@ -7,7 +7,7 @@ use crate::weighing::is_undecided;
 ghost use mathlib.Core.Path.{_≡_};
 ghost use Prim.Native.Nat.{_<_, _≤_};
 ghost use Rattle.rule.specs.Step.{mark, markOne, without};
-ghost use Rattle.rule.specs.Order.{oldestUndecided};
+ghost use Rattle.rule.specs.InOrder.{oldestUndecided};
 ghost use Rattle.account.specs.Panel.{rowPlaces};
 ghost use Rattle.account.specs.Places.{slotOf};
 ghost use Rattle.account.specs.Rows.{listOf, listFrom, foundIn, isFound, isCommittedAt, foundOr, placeAt, Longer, Made};

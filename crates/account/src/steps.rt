@@ -20,11 +20,11 @@ ghost use mathlib.Core.List.{List, []};
 ghost use Prim.Native.Nat.{_+_, _≤_, _<_};
 ghost use lib.ListN.{length};
 ghost use Rattle.rule.specs.Rule.{request, commit, abort};
-ghost use Rattle.rule.specs.Order.{guarded};
+ghost use Rattle.rule.specs.InOrder.{guarded};
 ghost use Rattle.rule.specs.Step as rule;
 ghost use Rattle.account.specs.Panel.{panel, rowPlaces};
 ghost use Rattle.account.specs.Places.{RuleSlot, slotOf};
-ghost use Rattle.account.specs.Order.{orderOf};
+ghost use Rattle.account.specs.InOrder.{inOrderOf};
 ghost use Rattle.account.specs.Known.{Decides};
 ghost use Rattle.account.specs.Clauses.{isAccept, listed};
 ghost use Rattle.account.specs.Steps.{RuleEntry, most, entriesOf, stepOf, refusedBy};
@@ -140,7 +140,7 @@ impl Account {
 
     // What the account has of a transaction.
     fn seek(self, transaction: u32) -> Sought
-        requires { ⌜ orderOf self ≡ true ⌝ }
+        requires { ⌜ inOrderOf self ≡ true ⌝ }
         ensures { λ r. ⌜ Seeks self transaction r ⌝ }
     {
         let event = self.events().find(transaction);

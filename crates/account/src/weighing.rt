@@ -12,7 +12,7 @@ ghost use Prim.Native.Nat.{ℕ, _≤_};
 ghost use Rattle.rule.specs.Rule.{slot};
 ghost use Rattle.account.specs.Panel.{rowPlaces};
 ghost use Rattle.account.specs.Places.{RuleSlot, decisionOf, used};
-ghost use Rattle.account.specs.Order.{isUndecided};
+ghost use Rattle.account.specs.InOrder.{isUndecided};
 ghost use Rattle.account.specs.Weighing.{verdictBy};
 ghost use Rattle.account.specs.Known.{Knows, Decides};
 

@@ -16,11 +16,11 @@ use Rattle.rule.specs.Rule as rule
 use Rattle.rule.specs.Rule.{Rule, Verdict, accept, reject, hold}
 use Rattle.rule.specs.Outcome.{outcomes}
 use Rattle.rule.specs.Weigh.{weigh, decide}
-use Rattle.rule.specs.Order as rule-order
+use Rattle.rule.specs.InOrder as rule-order
 use Rattle.rule.specs.Step.{settle, committing, step}
 use Rattle.rule.specs.Call as call
 use Rattle.rule.specs.Written.{OnlyApplied, OnlyDecided, Following, Shape}
-use Rattle.rule.proofs.Order.{order-clauses}
+use Rattle.rule.proofs.InOrder.{order-clauses}
 use Rattle.rule.proofs.Written.{step-shape}
 use Rattle.events.specs.declared.Event.{Event}
 use Rattle.account.specs.declared.Slot.{Slot as Place}
@@ -28,7 +28,7 @@ use Rattle.account.specs.declared.Account.{Account}
 use Rattle.events.specs.Events.{effectOf}
 use Rattle.account.specs.Panel.{panel}
 use Rattle.account.specs.Places.{RuleAccount, listsOf, accountOf, used}
-use Rattle.account.specs.Order.{orderOf}
+use Rattle.account.specs.InOrder.{inOrderOf}
 use Rattle.account.specs.Steps.{RuleEntry, entryOf, votedAs, entriesOf, blankEntry, most, stepOf, calledBy}
 use Rattle.account.proofs.Clauses.{order-counts}
 use Rattle.account.proofs.Ordered.{order-rule}
@@ -152,12 +152,12 @@ called-entries a next (call.taken xs) = refl
 
 pub calls-fit : CallsFit
 unfolding stepOf listsOf
-calls-fit a m = go (orderOf a) refl
+calls-fit a m = go (inOrderOf a) refl
   where
     answer : call.Answer ℕ Event ℕ
     answer = call.call panel (listsOf a) m .answer
 
-    go : (b : Bool) → orderOf a ≡ b → CallFits a m
+    go : (b : Bool) → inOrderOf a ≡ b → CallFits a m
     go false e = fits-from a m [] (rw e) (within-none most longestCall)
     go true e =
         fits-from a m (call.written answer) (rw e (called-entries a (call.call panel (listsOf a) m .account) answer))
@@ -181,7 +181,7 @@ calls-refused a m account buffer = go (ltb (length buffer) longestCall) refl
         rw (le-ltb (length buffer) (length bytes) (omega arith))
 
 longest-wholes : wholesOf (listOf (stepOf fullAccount (rule.commit 1 0) .entries)) ≡ longestCall
-unfolding stepOf orderOf rule-order.order outcomes weigh decide effectOf listsOf accountOf entriesOf call.call settle committing wholesOf lengthOfTold rowOf entryRows
+unfolding stepOf inOrderOf rule-order.isInOrder outcomes weigh decide effectOf listsOf accountOf entriesOf call.call settle committing wholesOf lengthOfTold rowOf entryRows
 longest-wholes = refl
 
 pub longest-there-is : LongestThereIs

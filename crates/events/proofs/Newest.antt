@@ -11,7 +11,7 @@ use lib.Pow.{pow-pos}
 use Rattle.rule.specs.Lists.{every, numbers}
 use Rattle.rule.specs.Rule.{Rule, Decision, undecided, committed, Slot, slot}
 use Rattle.rule.specs.Outcome.{undecidedOf, outcome, outcomes}
-use Rattle.rule.specs.Order.{guarded}
+use Rattle.rule.specs.InOrder.{guarded}
 use Rattle.rule.proofs.Outcomes.{twice}
 use Rattle.events.proofs.Guards.{and-true}
 

@@ -10,7 +10,7 @@ use borrow.Author.Tests.{leb-true, le-leb, eqb-true}
 use Rattle.rule.specs.Rule.{Slot}
 use Rattle.rule.specs.Outcome.{outcome}
 use Rattle.rule.specs.Run.{run, GuardsHold}
-use Rattle.rule.specs.Order.{Sound}
+use Rattle.rule.specs.InOrder.{Sound}
 use Rattle.rule.proofs.Lists.{and-left, and-right}
 use Rattle.rule.proofs.Safe.{Safe, outcome-agree}
 use Rattle.events.specs.declared.Event.{Event}
@@ -38,10 +38,10 @@ table-fits (Deposit a) s g h =
     (leb-true (s .balance + a) limit (and-right (isOpened (s .life) && leb 1 a) (leb (s .balance + a) limit) g))
 table-fits Close s g h = refl
 
-module _ (room bench : ℕ) where
+module _ (progressLimit heldLimit : ℕ) where
   -- a run that leads to each state in order: none, an Open, an Open and a Close
   state-run : (life : Life) (b : ℕ) → stateFits (record { life = life; balance = b }) ≡ true
-      → (es : List Event) × GuardsHold (firstPanel room bench) es (firstPanel room bench .fresh) × (run (firstPanel room bench) es (firstPanel room bench .fresh) ≡ record { life = life; balance = b })
+      → (es : List Event) × GuardsHold (firstPanel progressLimit heldLimit) es (firstPanel progressLimit heldLimit .fresh) × (run (firstPanel progressLimit heldLimit) es (firstPanel progressLimit heldLimit .fresh) ≡ record { life = life; balance = b })
   unfolding effectOf
   state-run New b h = ([], tt, ap (λ (n : ℕ). record { life = New; balance = n }) (sym (eqb-true b 0 (and-right (leb b limit) (eqb b 0) h))))
   state-run Opened b h =
@@ -50,7 +50,7 @@ module _ (room bench : ℕ) where
   state-run Closed b h =
       (Open 0 ∷ Close ∷ [], (refl, (refl, tt)), ap (λ (n : ℕ). record { life = Closed; balance = n }) (sym (eqb-true b 0 (and-right (leb b limit) (eqb b 0) h))))
 
-  pub sound : Sound (firstPanel room bench)
+  pub sound : Sound (firstPanel progressLimit heldLimit)
   sound =
       record {
         fresh = refl;
@@ -59,6 +59,6 @@ module _ (room bench : ℕ) where
       }
 
   -- the outcomes of events that are safe are those of the table's effects
-  pub outcome-table : {G : Type 0} (xs : List (Slot G Event)) (n : ℕ) (s : State) → Safe (firstPanel room bench) xs s
-      → outcome (firstTable room bench) xs n s ≡ outcome (firstPanel room bench) xs n s
-  outcome-table xs n s h = outcome-agree (firstPanel room bench) (firstTable room bench) (λ e t g. sym (effect-table e t g)) xs n s h
+  pub outcome-table : {G : Type 0} (xs : List (Slot G Event)) (n : ℕ) (s : State) → Safe (firstPanel progressLimit heldLimit) xs s
+      → outcome (firstTable progressLimit heldLimit) xs n s ≡ outcome (firstPanel progressLimit heldLimit) xs n s
+  outcome-table xs n s h = outcome-agree (firstPanel progressLimit heldLimit) (firstTable progressLimit heldLimit) (λ e t g. sym (effect-table e t g)) xs n s h

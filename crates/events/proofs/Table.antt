@@ -37,8 +37,8 @@ three-exactly p q r f g k =
     let both = two-exactly (p && q) r (two-exactly p q f g) k in
     (λ h. let x = both .0 h in (x .0 .0, x .0 .1, x .1), λ h. both .1 ((h .0, h .1), h .2))
 
-guards : (room bench : ℕ) (s : State) (a : ℕ) → Guards room bench s a
-guards room bench s a =
+guards : (progressLimit heldLimit : ℕ) (s : State) (a : ℕ) → Guards progressLimit heldLimit s a
+guards progressLimit heldLimit s a =
     record {
       opens = two-exactly (isNew (s .life)) (leb a limit) (new-exactly (s .life)) (leb-exactly a limit);
       withdraws = three-exactly (isOpened (s .life)) (leb 1 a) (leb a (s .balance)) (opened-exactly (s .life)) (leb-exactly 1 a) (leb-exactly a (s .balance));
@@ -46,25 +46,25 @@ guards room bench s a =
       closes = opened-exactly (s .life);
     }
 
-effects : (room bench : ℕ) (s : State) (a : ℕ) → Effects room bench s a
+effects : (progressLimit heldLimit : ℕ) (s : State) (a : ℕ) → Effects progressLimit heldLimit s a
 unfolding effectOf
-effects room bench s a =
+effects progressLimit heldLimit s a =
     record {
       opens = λ h. effect-table (Open a) s h;
-      withdraws = λ h. effect-table (Withdraw a) s h ∙ ap (λ (l : Life). record { life = l; balance = s .balance - a }) (guards room bench s a .withdraws .0 h .0);
-      deposits = λ h. effect-table (Deposit a) s h ∙ ap (λ (l : Life). record { life = l; balance = s .balance + a }) (guards room bench s a .deposits .0 h .0);
+      withdraws = λ h. effect-table (Withdraw a) s h ∙ ap (λ (l : Life). record { life = l; balance = s .balance - a }) (guards progressLimit heldLimit s a .withdraws .0 h .0);
+      deposits = λ h. effect-table (Deposit a) s h ∙ ap (λ (l : Life). record { life = l; balance = s .balance + a }) (guards progressLimit heldLimit s a .deposits .0 h .0);
       closes = λ h. effect-table Close s h;
       otherwise = λ e h. ⊎-elim (λ k. absurd (h k)) (λ k. rw k) (either (guardOf e s));
     }
 
-fields : (room bench : ℕ) (s : State) (a : ℕ) → Fields room bench s a
-fields room bench s a =
+fields : (progressLimit heldLimit : ℕ) (s : State) (a : ℕ) → Fields progressLimit heldLimit s a
+fields progressLimit heldLimit s a =
     record {
       fresh = refl;
       shown = refl;
       fits = two-exactly (leb (s .balance) limit) (cond (isOpened (s .life)) true (eqb (s .balance) 0)) (leb-exactly (s .balance) limit) (closed-empty (s .life));
-      room′ = refl;
-      bench′ = refl;
+      progressLimit′ = refl;
+      heldLimit′ = refl;
     }
   where
     not-opened : (l : Life) → (isOpened l ≡ false) → (l ≡ Opened → ⊥)
@@ -78,12 +78,12 @@ fields room bench s a =
     closed-empty l = by l (isOpened l) refl
 
 pub table-holds : TableHolds
-table-holds room bench s a =
+table-holds progressLimit heldLimit s a =
     record {
-      guards = guards room bench s a;
-      effects = effects room bench s a;
+      guards = guards progressLimit heldLimit s a;
+      effects = effects progressLimit heldLimit s a;
       tableEffects = record { opens = refl; withdraws = refl; deposits = refl; closes = refl };
-      fields = fields room bench s a;
+      fields = fields progressLimit heldLimit s a;
     }
 
 -- an event is its kind and its amount, and the kind fits in a byte

@@ -9,7 +9,7 @@ use mathlib.Core.List.{List, [], _∷_, _++_, map}
 use Rattle.rule.specs.Lists.{every, some-of}
 use Rattle.rule.specs.Rule.{Slot}
 use Rattle.rule.specs.Outcome.{outcomes}
-use Rattle.rule.specs.Order.{guarded}
+use Rattle.rule.specs.InOrder.{guarded}
 use Rattle.events.specs.declared.Event.{Event}
 use Rattle.events.specs.declared.Life.{Life}
 use Rattle.events.specs.declared.Life.the-variants.{New, Opened, Closed}
@@ -42,27 +42,27 @@ abbrev pub GlanceHolds : Type 0
 GlanceHolds = (states : List State) → Glance states
 
 -- what a range tells of an event, on states of which there is one at least, by the first panel's guards and effects
-module _ (room bench : ℕ) (first : State) (others : List State) (e : Event) where
+module _ (progressLimit heldLimit : ℕ) (first : State) (others : List State) (e : Event) where
   pub record Tells : Type 0 where
-    pub all : everyIn e (rangeOf (first ∷ others)) ≡ every (firstPanel room bench .guard e) (first ∷ others)
-    pub any : someIn e (rangeOf (first ∷ others)) ≡ some-of (firstPanel room bench .guard e) (first ∷ others)
+    pub all : everyIn e (rangeOf (first ∷ others)) ≡ every (firstPanel progressLimit heldLimit .guard e) (first ∷ others)
+    pub any : someIn e (rangeOf (first ∷ others)) ≡ some-of (firstPanel progressLimit heldLimit .guard e) (first ∷ others)
     -- where the guard holds in all of them: the range after the event in all of them, and with it in a second lot of them
-    pub after : every (firstPanel room bench .guard e) (first ∷ others) ≡ true
-        → rangeAfter e (rangeOf (first ∷ others)) ≡ rangeOf (map (firstPanel room bench .effect e) (first ∷ others))
-    pub perhaps : every (firstPanel room bench .guard e) (first ∷ others) ≡ true
-        → rangePerhaps e (rangeOf (first ∷ others)) ≡ rangeOf ((first ∷ others) ++ map (firstPanel room bench .effect e) (first ∷ others))
+    pub after : every (firstPanel progressLimit heldLimit .guard e) (first ∷ others) ≡ true
+        → rangeAfter e (rangeOf (first ∷ others)) ≡ rangeOf (map (firstPanel progressLimit heldLimit .effect e) (first ∷ others))
+    pub perhaps : every (firstPanel progressLimit heldLimit .guard e) (first ∷ others) ≡ true
+        → rangePerhaps e (rangeOf (first ∷ others)) ≡ rangeOf ((first ∷ others) ++ map (firstPanel progressLimit heldLimit .effect e) (first ∷ others))
 
 abbrev pub RangeTells : Type 0
-RangeTells = (room bench : ℕ) (first : State) (others : List State) (e : Event) → Tells room bench first others e
+RangeTells = (progressLimit heldLimit : ℕ) (first : State) (others : List State) (e : Event) → Tells progressLimit heldLimit first others e
 
 -- and kept through the events in progress
-module _ {G : Type 0} (room bench : ℕ) (s : State) (xs : List (Slot G Event)) where
+module _ {G : Type 0} (progressLimit heldLimit : ℕ) (s : State) (xs : List (Slot G Event)) where
   pub record Answers : Type 0 where
-    pub range : rangeThrough xs (rangeOf (s ∷ [])) ≡ rangeOf (outcomes (firstPanel room bench) xs s)
-    pub all : (e : Event) → everyIn e (rangeThrough xs (rangeOf (s ∷ []))) ≡ every (firstPanel room bench .guard e) (outcomes (firstPanel room bench) xs s)
-    pub any : (e : Event) → someIn e (rangeThrough xs (rangeOf (s ∷ []))) ≡ some-of (firstPanel room bench .guard e) (outcomes (firstPanel room bench) xs s)
+    pub range : rangeThrough xs (rangeOf (s ∷ [])) ≡ rangeOf (outcomes (firstPanel progressLimit heldLimit) xs s)
+    pub all : (e : Event) → everyIn e (rangeThrough xs (rangeOf (s ∷ []))) ≡ every (firstPanel progressLimit heldLimit .guard e) (outcomes (firstPanel progressLimit heldLimit) xs s)
+    pub any : (e : Event) → someIn e (rangeThrough xs (rangeOf (s ∷ []))) ≡ some-of (firstPanel progressLimit heldLimit .guard e) (outcomes (firstPanel progressLimit heldLimit) xs s)
 
 abbrev pub RangeAnswers : Type 1
 RangeAnswers =
-    (G : Type 0) (room bench : ℕ) (s : State) (xs : List (Slot G Event))
-    → guarded (firstPanel room bench) s [] xs ≡ true → Answers room bench s xs
+    (G : Type 0) (progressLimit heldLimit : ℕ) (s : State) (xs : List (Slot G Event))
+    → guarded (firstPanel progressLimit heldLimit) s [] xs ≡ true → Answers progressLimit heldLimit s xs

@@ -7,7 +7,7 @@ use Rattle.events.specs.declared.Life.the-variants.{New}
 use Rattle.events.specs.declared.State.{State}
 use Rattle.events.specs.Events.{guardOf, tableEffect, effectOf, stateFits}
 
-module _ (room bench : ℕ) where
+module _ (progressLimit heldLimit : ℕ) where
   -- the commit rule of these guards with an effect: an applied entry shows the balance
   abbrev ruleOf : (Event → State → State) → Rule State Event ℕ
   ruleOf effect =
@@ -17,8 +17,8 @@ module _ (room bench : ℕ) where
         fresh = record { life = New; balance = 0 };
         shown = λ (s : State). s .balance;
         fits = stateFits;
-        room = room;
-        bench = bench;
+        progressLimit = progressLimit;
+        heldLimit = heldLimit;
       }
 
   -- the commit rule of the first panel,

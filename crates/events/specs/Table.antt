@@ -15,36 +15,36 @@ use Rattle.events.specs.Events.{isBlankEvent}
 use Rattle.events.specs.Kinds.{eventKind, amountOf, eventOf}
 use Rattle.events.specs.Panel.{firstPanel, firstTable}
 
-module _ (room bench : ℕ) (s : State) (a : ℕ) where
+module _ (progressLimit heldLimit : ℕ) (s : State) (a : ℕ) where
   -- the column of guards
   pub record Guards : Type 0 where
-    pub opens : (firstPanel room bench .guard (Open a) s ≡ true) ↔ ((s .life ≡ New) × (a ≤ 1_000_000))
-    pub withdraws : (firstPanel room bench .guard (Withdraw a) s ≡ true) ↔ ((s .life ≡ Opened) × (1 ≤ a) × (a ≤ s .balance))
-    pub deposits : (firstPanel room bench .guard (Deposit a) s ≡ true) ↔ ((s .life ≡ Opened) × (1 ≤ a) × (s .balance + a ≤ 1_000_000))
-    pub closes : (firstPanel room bench .guard Close s ≡ true) ↔ (s .life ≡ Opened)
+    pub opens : (firstPanel progressLimit heldLimit .guard (Open a) s ≡ true) ↔ ((s .life ≡ New) × (a ≤ 1_000_000))
+    pub withdraws : (firstPanel progressLimit heldLimit .guard (Withdraw a) s ≡ true) ↔ ((s .life ≡ Opened) × (1 ≤ a) × (a ≤ s .balance))
+    pub deposits : (firstPanel progressLimit heldLimit .guard (Deposit a) s ≡ true) ↔ ((s .life ≡ Opened) × (1 ≤ a) × (s .balance + a ≤ 1_000_000))
+    pub closes : (firstPanel progressLimit heldLimit .guard Close s ≡ true) ↔ (s .life ≡ Opened)
 
   -- the column of effects, where the guard holds; where it does not, nothing changes
   pub record Effects : Type 0 where
-    pub opens : firstPanel room bench .guard (Open a) s ≡ true → firstPanel room bench .effect (Open a) s ≡ record { life = Opened; balance = a }
-    pub withdraws : firstPanel room bench .guard (Withdraw a) s ≡ true → firstPanel room bench .effect (Withdraw a) s ≡ record { life = Opened; balance = s .balance - a }
-    pub deposits : firstPanel room bench .guard (Deposit a) s ≡ true → firstPanel room bench .effect (Deposit a) s ≡ record { life = Opened; balance = s .balance + a }
-    pub closes : firstPanel room bench .guard Close s ≡ true → firstPanel room bench .effect Close s ≡ record { life = Closed; balance = 0 }
-    pub otherwise : (e : Event) → (firstPanel room bench .guard e s ≡ true → ⊥) → firstPanel room bench .effect e s ≡ s
+    pub opens : firstPanel progressLimit heldLimit .guard (Open a) s ≡ true → firstPanel progressLimit heldLimit .effect (Open a) s ≡ record { life = Opened; balance = a }
+    pub withdraws : firstPanel progressLimit heldLimit .guard (Withdraw a) s ≡ true → firstPanel progressLimit heldLimit .effect (Withdraw a) s ≡ record { life = Opened; balance = s .balance - a }
+    pub deposits : firstPanel progressLimit heldLimit .guard (Deposit a) s ≡ true → firstPanel progressLimit heldLimit .effect (Deposit a) s ≡ record { life = Opened; balance = s .balance + a }
+    pub closes : firstPanel progressLimit heldLimit .guard Close s ≡ true → firstPanel progressLimit heldLimit .effect Close s ≡ record { life = Closed; balance = 0 }
+    pub otherwise : (e : Event) → (firstPanel progressLimit heldLimit .guard e s ≡ true → ⊥) → firstPanel progressLimit heldLimit .effect e s ≡ s
 
   -- the same column as the table has it, whatever the guard says
   pub record TableEffects : Type 0 where
-    pub opens : firstTable room bench .effect (Open a) s ≡ record { life = Opened; balance = a }
-    pub withdraws : firstTable room bench .effect (Withdraw a) s ≡ record { life = s .life; balance = s .balance - a }
-    pub deposits : firstTable room bench .effect (Deposit a) s ≡ record { life = s .life; balance = s .balance + a }
-    pub closes : firstTable room bench .effect Close s ≡ record { life = Closed; balance = 0 }
+    pub opens : firstTable progressLimit heldLimit .effect (Open a) s ≡ record { life = Opened; balance = a }
+    pub withdraws : firstTable progressLimit heldLimit .effect (Withdraw a) s ≡ record { life = s .life; balance = s .balance - a }
+    pub deposits : firstTable progressLimit heldLimit .effect (Deposit a) s ≡ record { life = s .life; balance = s .balance + a }
+    pub closes : firstTable progressLimit heldLimit .effect Close s ≡ record { life = Closed; balance = 0 }
 
   -- what else the rule has: a new account, what an applied entry shows, the states in order, the places
   pub record Fields : Type 0 where
-    pub fresh : firstPanel room bench .fresh ≡ record { life = New; balance = 0 }
-    pub shown : firstPanel room bench .shown s ≡ s .balance
-    pub fits : (firstPanel room bench .fits s ≡ true) ↔ ((s .balance ≤ 1_000_000) × ((s .life ≡ Opened → ⊥) → s .balance ≡ 0))
-    pub room′ : firstPanel room bench .room ≡ room
-    pub bench′ : firstPanel room bench .bench ≡ bench
+    pub fresh : firstPanel progressLimit heldLimit .fresh ≡ record { life = New; balance = 0 }
+    pub shown : firstPanel progressLimit heldLimit .shown s ≡ s .balance
+    pub fits : (firstPanel progressLimit heldLimit .fits s ≡ true) ↔ ((s .balance ≤ 1_000_000) × ((s .life ≡ Opened → ⊥) → s .balance ≡ 0))
+    pub progressLimit′ : firstPanel progressLimit heldLimit .progressLimit ≡ progressLimit
+    pub heldLimit′ : firstPanel progressLimit heldLimit .heldLimit ≡ heldLimit
 
   pub record Table : Type 0 where
     pub guards : Guards
@@ -53,7 +53,7 @@ module _ (room bench : ℕ) (s : State) (a : ℕ) where
     pub fields : Fields
 
 abbrev pub TableHolds : Type 0
-TableHolds = (room bench : ℕ) (s : State) (a : ℕ) → Table room bench s a
+TableHolds = (progressLimit heldLimit : ℕ) (s : State) (a : ℕ) → Table progressLimit heldLimit s a
 
 -- the four events in the order of their kinds 1 to 4; a close has the amount 0
 abbrev pub events : (amount : ℕ) → List Event

@@ -14,11 +14,11 @@ use borrow.Author.Tests.{eqb-true, eqb-false, leb-true}
 use Rattle.rule.specs.Rule as rule
 use Rattle.rule.specs.Call as rule-call
 use Rattle.rule.specs.History.{Seen, linesFrom}
-use Rattle.rule.specs.Order as rule-order
+use Rattle.rule.specs.InOrder as rule-order
 use Rattle.rule.specs.Says.{MessageSays, AccountSays}
 use Rattle.rule.proofs.Lists.{and-right}
 use Rattle.rule.proofs.Reached.{Told, new-told, call-told, refusal-told}
-use Rattle.rule.proofs.Order.{rest-order, clauses-order}
+use Rattle.rule.proofs.InOrder.{rest-order, clauses-order}
 use Rattle.rule.proofs.Says.{call-says}
 use Rattle.rule.proofs.Demand.{kept-demand3}
 use Rattle.events.specs.declared.Event.{Event}
@@ -56,7 +56,7 @@ use Rattle.entry.proofs.CallFits.{listed}
 use Rattle.register.proofs.ReadAs.{account-read}
 use Rattle.register.proofs.ReadBack.{entries-back}
 use Rattle.register.proofs.Sequences.{each-call, each-sight}
-use Rattle.register.proofs.InOrder.{always-in-order, never-five, never-asked-five}
+use Rattle.register.proofs.InOrderExactly.{always-in-order, never-five, never-asked-five}
 
 abbrev Fit : RuleAccount → Type 0
 Fit a = AccountSays panel EventFits CommitFits StateFits BalanceFits a
@@ -84,7 +84,7 @@ balance-kept e s h = go (guardOf e s) refl
     go false q = h
 
 -- the rule's account at rest is in order
-told-order : (a : RuleAccount) (seen : List (Seen ℕ Event ℕ)) → Told panel a seen → rule-order.order panel a ≡ true
+told-order : (a : RuleAccount) (seen : List (Seen ℕ Event ℕ)) → Told panel a seen → rule-order.isInOrder panel a ≡ true
 told-order a seen h = clauses-order panel a (rest-order panel sound a (linesFrom [] seen) (h .rest))
 
 -- what a message that was read brings fits

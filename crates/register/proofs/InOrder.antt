@@ -11,7 +11,7 @@ use lib.ListN.{length, getD, set, replicate}
 use borrow.Author.Tests.{eq-eqb}
 use Rattle.rule.specs.Lists.{every}
 use Rattle.rule.specs.Rule as rule
-use Rattle.rule.specs.Order as rule-order
+use Rattle.rule.specs.InOrder as rule-order
 use Rattle.rule.proofs.Lists.{and-left, and-right}
 use Rattle.events.specs.declared.State.{State}
 use Rattle.account.specs.declared.Account.{Account}
@@ -20,7 +20,7 @@ use Rattle.account.specs.declared.Answer.the-variants as Step′
 use Rattle.account.specs.declared.Entries.{Entries}
 use Rattle.account.specs.Panel.{panel}
 use Rattle.account.specs.Places.{listsOf, accountOf}
-use Rattle.account.specs.Order.{orderOf}
+use Rattle.account.specs.InOrder.{inOrderOf}
 use Rattle.account.specs.Steps.{Told′, toldOf}
 use Rattle.account.proofs.Kept.{step-order}
 use Rattle.layout.specs.Answers.{Test, firstOf}
@@ -39,9 +39,9 @@ use Rattle.register.proofs.Refusals.{call-refuses, outlook-tells}
 
 -- every account is in order, and so is what stands past the last
 abbrev InOrder : Register → Type 0
-InOrder r = (i : ℕ) → orderOf (standingAt r i) ≡ true
+InOrder r = (i : ℕ) → inOrderOf (standingAt r i) ≡ true
 
-set-order : (accounts : List Account) (i : ℕ) (a : Account) → orderOf a ≡ true → ((j : ℕ) → orderOf (getD accounts j nowhere) ≡ true) → (j : ℕ) → orderOf (getD (set accounts i a) j nowhere) ≡ true
+set-order : (accounts : List Account) (i : ℕ) (a : Account) → inOrderOf a ≡ true → ((j : ℕ) → inOrderOf (getD accounts j nowhere) ≡ true) → (j : ℕ) → inOrderOf (getD (set accounts i a) j nowhere) ≡ true
 set-order [] i a h k j = k j
 set-order (x ∷ accounts) zero a h k zero = h
 set-order (x ∷ accounts) zero a h k (suc j) = k (suc j)
@@ -49,7 +49,7 @@ set-order (x ∷ accounts) (suc i) a h k zero = k zero
 set-order (x ∷ accounts) (suc i) a h k (suc j) = set-order accounts i a h (λ n. k (suc n)) j
 
 module _ (r : Register) (buffer : List ℕ) (k : InOrder r) where
-  step-kept : (i consumed : ℕ) (answer : StepAnswer) (next : Account) (entries : Entries) → orderOf next ≡ true → InOrder (afterStep r buffer i consumed answer next entries .register)
+  step-kept : (i consumed : ℕ) (answer : StepAnswer) (next : Account) (entries : Entries) → inOrderOf next ≡ true → InOrder (afterStep r buffer i consumed answer next entries .register)
   step-kept i consumed (Step′.Refused n) next entries h = k
   step-kept i consumed Step′.Taken next entries h = set-order (r .accounts) i next h k
 
@@ -77,20 +77,20 @@ calls-kept [] r k = k
 calls-kept (x ∷ inputs) r k = calls-kept inputs (callOf r (x .message) (x .buffer) .register) (reading-kept r (x .buffer) k (readOf (x .message)))
 
 -- a new account, and what stands past the last, computed
-nowhere-order : orderOf nowhere ≡ true
-unfolding orderOf listsOf rule-order.order
+nowhere-order : inOrderOf nowhere ≡ true
+unfolding inOrderOf listsOf rule-order.isInOrder
 nowhere-order = refl
 
-fresh-order : orderOf (accountOf (rule.newAccount panel ℕ)) ≡ true
-unfolding orderOf listsOf accountOf rule-order.order
+fresh-order : inOrderOf (accountOf (rule.newAccount panel ℕ)) ≡ true
+unfolding inOrderOf listsOf accountOf rule-order.isInOrder
 fresh-order = refl
 
-replicate-order : (n : ℕ) (a : Account) → orderOf a ≡ true → (i : ℕ) → orderOf (getD (replicate n a) i nowhere) ≡ true
+replicate-order : (n : ℕ) (a : Account) → inOrderOf a ≡ true → (i : ℕ) → inOrderOf (getD (replicate n a) i nowhere) ≡ true
 replicate-order zero a h i = nowhere-order
 replicate-order (suc n) a h zero = h
 replicate-order (suc n) a h (suc i) = replicate-order n a h i
 
-pub always-in-order : (inputs : List Input) (i : ℕ) → orderOf (standingAt (after freshRegister inputs) i) ≡ true
+pub always-in-order : (inputs : List Input) (i : ℕ) → inOrderOf (standingAt (after freshRegister inputs) i) ≡ true
 unfolding freshRegister
 always-in-order inputs i = calls-kept inputs freshRegister (replicate-order 16 (accountOf (rule.newAccount panel ℕ)) fresh-order) i
 

@@ -9,7 +9,7 @@ use lib.Dec.{lit≤}
 use lib.ListN.{length, take, drop, take-append-drop}
 use Rattle.rule.specs.Rule as rule
 use Rattle.rule.specs.Written.{Shape}
-use Rattle.rule.proofs.Order.{order-clauses}
+use Rattle.rule.proofs.InOrder.{order-clauses}
 use Rattle.rule.proofs.Written.{step-shape}
 use Rattle.events.specs.declared.Event.{Event}
 use Rattle.events.specs.declared.Event.the-variants.{Open, Withdraw, Deposit, Close}

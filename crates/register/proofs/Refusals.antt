@@ -32,7 +32,7 @@ use Rattle.account.specs.declared.Entries.{Entries}
 use Rattle.account.specs.declared.Outlook.the-variants as Outlook′
 use Rattle.account.specs.Panel.{panel}
 use Rattle.account.specs.Places.{decisionOf, slotOf, listsOf}
-use Rattle.account.specs.Order.{isUndecided, orderOf}
+use Rattle.account.specs.InOrder.{isUndecided, inOrderOf}
 use Rattle.account.specs.Steps.{given, refusedBy, calledBy, stepOf, toldOf, outlookOf}
 use Rattle.layout.specs.Number.{numberAt}
 use Rattle.events.specs.Kinds.{eventOf}
@@ -115,9 +115,9 @@ module _ (kind : ℕ) (h : Heading) (amount : ℕ) where
           rw (p, q, le-leb kind 4 few, lt-leb 5 kind (omega arith)) (request-refusal a (h .transaction) (h .second) (eventOf kind amount))
 
 -- A step's refusal: 5, or the rule's.
-step-refusal : (a : Account) (m : rule.Message ℕ Event) → given (stepOf a m .answer) ≡ cond (not (orderOf a)) (some 5) (rule-call.refusal panel (listsOf a) m)
+step-refusal : (a : Account) (m : rule.Message ℕ Event) → given (stepOf a m .answer) ≡ cond (not (inOrderOf a)) (some 5) (rule-call.refusal panel (listsOf a) m)
 unfolding stepOf rule-call.call
-step-refusal a m = go (orderOf a) (rule-call.refusal panel (listsOf a) m)
+step-refusal a m = go (inOrderOf a) (rule-call.refusal panel (listsOf a) m)
   where
     by : Option ℕ → rule-call.Called ℕ State Event ℕ
     by o = rule-call.callBy o (listsOf a) (rule-step.step panel (listsOf a) m)
@@ -144,7 +144,7 @@ module _ (r : Register) (bytes buffer : List ℕ) where
       → refusalOf (afterMessage r buffer (messageIn bytes) (lengthBy (kindIn bytes)) .answer)
       ≡ firstOf
       (test (ltb (length buffer) 315) 4 ∷
-      test (not (orderOf (standingAt r (accountIn bytes)))) 5 ∷
+      test (not (inOrderOf (standingAt r (accountIn bytes)))) 5 ∷
       accountTests (kindIn bytes) (standingAt r (accountIn bytes)) (transactionIn bytes))
   unfolding afterMessage
   after-message l =
@@ -166,7 +166,7 @@ call-refuses r bytes buffer =
     rest : List Test
     rest =
         test (ltb (length buffer) 315) 4 ∷
-        test (not (orderOf (standingAt r (accountIn bytes)))) 5 ∷
+        test (not (inOrderOf (standingAt r (accountIn bytes)))) 5 ∷
         accountTests kind (standingAt r (accountIn bytes)) (transactionIn bytes)
 
     go : (a b b′ c d : Bool) → leb kind 6 ≡ b′
@@ -205,7 +205,7 @@ not-below n k = go (leb k n) refl
 
 pub outlook-tells : OutlookTells
 unfolding outlookIn outlookOf listsOf
-outlook-tells r i n = rw (numbered panel xs s .bits n, undecided-used (progressIn a), not-below n (2 ^ undecidedIn a)) (go (ltb 15 i) (orderOf a) (leb (2 ^ undecidedIn a) n) refl)
+outlook-tells r i n = rw (numbered panel xs s .bits n, undecided-used (progressIn a), not-below n (2 ^ undecidedIn a)) (go (ltb 15 i) (inOrderOf a) (leb (2 ^ undecidedIn a) n) refl)
   where
     a : Account
     a = standingAt r i

@@ -2,11 +2,11 @@
 -- Assumes nothing.
 use mathlib.Core.Path.{refl}
 use Rattle.rule.specs.Call.{call}
-use Rattle.rule.specs.Order.{order}
+use Rattle.rule.specs.InOrder.{isInOrder}
 use Rattle.rule.specs.Outcome.{outcomes}
 use Rattle.rule.specs.Step.{settle, asked, committing, aborting}
 use Rattle.rule.specs.Weigh.{weigh, decide}
-use Rattle.account.specs.Order.{orderOf}
+use Rattle.account.specs.InOrder.{inOrderOf}
 use Rattle.events.specs.Events.{effectOf}
 use Rattle.account.specs.Places.{listsOf, accountOf}
 use Rattle.account.specs.Steps.{entriesOf, stepOf}
@@ -22,5 +22,5 @@ use Rattle.register.specs.Run.{runFrom, runOf}
 use Rattle.register.specs.Samples.{samples, SamplesHold}
 
 pub samples-hold : SamplesHold
-unfolding call order outcomes settle asked committing aborting weigh decide orderOf effectOf listsOf accountOf entriesOf stepOf eventOf written numbersAt rowOf bytesOf numberAt readOf messages messageBy entryRows bytesOfEntry bytesOfEntries freshRegister afterMessage callOf runFrom runOf samples
+unfolding call isInOrder outcomes settle asked committing aborting weigh decide inOrderOf effectOf listsOf accountOf entriesOf stepOf eventOf written numbersAt rowOf bytesOf numberAt readOf messages messageBy entryRows bytesOfEntry bytesOfEntries freshRegister afterMessage callOf runFrom runOf samples
 samples-hold = (refl, refl)

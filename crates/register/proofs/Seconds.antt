@@ -13,7 +13,7 @@ use lib.ListN.{length, take, drop, length-set, getD-replicate}
 use lib.Seq.{take-at, drop-at, getD-set-same, getD-set-other}
 use Rattle.rule.specs.Rule as rule
 use Rattle.rule.specs.Call as rule-call
-use Rattle.rule.specs.Order as rule-order
+use Rattle.rule.specs.InOrder as rule-order
 use Rattle.rule.specs.Filed.{messageThrough, entryThrough, answerThrough, accountThrough}
 use Rattle.rule.proofs.Filed.{never-looked}
 use Rattle.events.specs.declared.Event.{Event}
@@ -21,7 +21,7 @@ use Rattle.events.specs.declared.State.{State}
 use Rattle.account.specs.declared.Account.{Account}
 use Rattle.account.specs.Panel.{panel}
 use Rattle.account.specs.Places.{RuleAccount, listsOf, accountOf}
-use Rattle.account.specs.Order.{orderOf}
+use Rattle.account.specs.InOrder.{inOrderOf}
 use Rattle.account.specs.Steps.{entryOf, calledBy, stepOf}
 use Rattle.account.proofs.Panel.{panel-call-order}
 use Rattle.account.proofs.Padded.{lists-account}
@@ -45,8 +45,8 @@ use Rattle.register.proofs.OtherSecond.{forget, SameReading, same-refus
 
 -- two accounts in order whose lists differ only in their seconds
 record SameAccount (a a′ : Account) : Type 0 where
-  order : orderOf a ≡ true
-  order′ : orderOf a′ ≡ true
+  order : inOrderOf a ≡ true
+  order′ : inOrderOf a′ ≡ true
   lists : accountThrough forget (listsOf a) ≡ accountThrough forget (listsOf a′)
 
 pub record SameRegister (r r′ : Register) : Type 0 where
@@ -76,7 +76,7 @@ module _ (a a′ : RuleAccount) (m m′ : rule.Message ℕ Event) (accounts : ac
       sym (never-looked panel forget a m .account) ∙ ap (λ (c : rule-call.Called ℕ State Event ℕ). c .account) called-same ∙ never-looked panel forget a′ m′ .account
 
 -- accounts of lists in order that agree but for their seconds
-lists-same : (a a′ : RuleAccount) → rule-order.order panel a ≡ true → rule-order.order panel a′ ≡ true → accountThrough forget a ≡ accountThrough forget a′
+lists-same : (a a′ : RuleAccount) → rule-order.isInOrder panel a ≡ true → rule-order.isInOrder panel a′ ≡ true → accountThrough forget a ≡ accountThrough forget a′
     → SameAccount (accountOf a) (accountOf a′)
 lists-same a a′ o o′ h =
     record {
@@ -192,8 +192,8 @@ calls-same r r′ same (one-more {x = x} {y = y} other buffers more) =
     (calls-same (callOf r (x .message) (x .buffer) .register) (callOf r′ (y .message) (y .buffer) .register) (k .registers) more)
 
 -- a fresh register
-new-order : rule-order.order panel (rule.newAccount panel ℕ) ≡ true
-unfolding rule-order.order
+new-order : rule-order.isInOrder panel (rule.newAccount panel ℕ) ≡ true
+unfolding rule-order.isInOrder
 new-order = refl
 
 pub fresh-same : SameRegister freshRegister freshRegister

@@ -17,7 +17,7 @@ use Rattle.events.specs.declared.State.{State}
 use Rattle.account.specs.declared.Account.{Account}
 use Rattle.account.specs.Panel.{panel}
 use Rattle.account.specs.Places.{listsOf}
-use Rattle.account.specs.Order.{orderOf}
+use Rattle.account.specs.InOrder.{inOrderOf}
 use Rattle.layout.specs.Number.{numberAt}
 use Rattle.layout.specs.Answers.{firstOf}
 use Rattle.message.specs.declared.Reading.the-variants as Reading′
@@ -52,7 +52,7 @@ module _ (r : Register) (bytes buffer : List ℕ) where
   pub record Took : Type 0 where
     pub read : readOf bytes ≡ Reading′.Message (messageIn bytes) (lengthBy (kindIn bytes))
     pub room : 315 ≤ length buffer
-    pub order : orderOf named ≡ true
+    pub order : inOrderOf named ≡ true
     pub free : rule-call.refusal panel (listsOf named) (ruleMessage (messageIn bytes)) ≡ none
     pub ruled : RuledBy r buffer (accountIn bytes) (lengthBy (kindIn bytes)) (taking .account) (rule-call.taken (taking .entries)) (callOf r bytes buffer)
 
@@ -66,10 +66,10 @@ module _ (r : Register) (bytes buffer : List ℕ) where
       let t3 = passed (ltb (length bytes) (lengthBy kind)) 1 _ (t2 .1) in
       let t4 = passed (ltb 15 (accountIn bytes)) 3 _ (t3 .1) in
       let t5 = passed (ltb (length buffer) 315) 4 _ (t4 .1) in
-      let t6 = passed (not (orderOf named)) 5 _ (t5 .1) in
+      let t6 = passed (not (inOrderOf named)) 5 _ (t5 .1) in
       let read′ : readOf bytes ≡ Reading′.Message (messageIn bytes) (lengthBy kind) = reading bytes ∙ rw (t1 .0, t2 .0, t3 .0, t4 .0) in
       let room′ = ltb-false (length buffer) 315 (t5 .0) in
-      let order′ = not-false (orderOf named) (t6 .0) in
+      let order′ = not-false (inOrderOf named) (t6 .0) in
       let known = leb-true kind 6 (and-right (leb 1 kind) (leb kind 6) (not-false (leb 1 kind && leb kind 6) (t2 .0))) in
       let free′ : rule-call.refusal panel (listsOf named) (ruleMessage (messageIn bytes)) ≡ none =
       kind-refusal kind (headingAt bytes) (numberAt bytes 11 4) named known ∙ ap (λ (t : ℕ). firstOf (accountTests kind named t)) (transaction-at bytes) ∙ t6 .1 in

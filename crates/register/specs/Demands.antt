@@ -19,7 +19,7 @@ use Rattle.events.specs.declared.State.{State}
 use Rattle.account.specs.Panel.{panel}
 use Rattle.account.specs.Table.{TableHolds, OutcomesOfTheTable}
 use Rattle.account.specs.Places.{RuleSlot, RuleAccount, listsOf, accountOf}
-use Rattle.account.specs.Order.{orderOf}
+use Rattle.account.specs.InOrder.{inOrderOf}
 use Rattle.account.specs.Steps.{entryOf, toldOf}
 use Rattle.layout.specs.Number.{AreBytes}
 use Rattle.message.specs.declared.Message.{Message}
@@ -87,7 +87,7 @@ pub record Demand1 : Type 0 where
 abbrev pub AsTheRule : Type 0
 AsTheRule =
     (r : Register) (bytes buffer : List ℕ) (m : Message) (consumed : ℕ) → readOf bytes ≡ Reading′.Message m consumed → 315 ≤ length buffer
-    → orderOf (standingAt r (accountIn bytes)) ≡ true
+    → inOrderOf (standingAt r (accountIn bytes)) ≡ true
     → Ruled r buffer (accountIn bytes) consumed (call panel (listsOf (standingAt r (accountIn bytes))) (ruleMessage m)) (callOf r bytes buffer)
 
 -- of two sequences to fresh registers that are the same but for their seconds, the answers are the same, and the entries but for their seconds
@@ -130,6 +130,6 @@ pub record Demand3 : Type 0 where
   pub sight : (i : ℕ) (xs : List Exchange) (x : Exchange) → Sight i xs x
   pub whole : (inputs : List Input) → ByteStrings inputs → EachOnlyEntries (exchanges freshRegister inputs)
   -- every account is in order, so that 5 is given neither by a call nor by the outcome question
-  pub order : (inputs : List Input) (i : ℕ) → i < 16 → orderOf (standingAt (after freshRegister inputs) i) ≡ true
+  pub order : (inputs : List Input) (i : ℕ) → i < 16 → inOrderOf (standingAt (after freshRegister inputs) i) ≡ true
   pub never-five : (inputs : List Input) (bytes buffer : List ℕ) → refusalOf (callOf (after freshRegister inputs) bytes buffer .answer) ≡ some 5 → ⊥
   pub never-asked-five : (inputs : List Input) (i n : ℕ) → toldOf (outlookIn (after freshRegister inputs) i n) .refusal ≡ some 5 → ⊥

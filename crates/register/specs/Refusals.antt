@@ -17,7 +17,7 @@ use Rattle.account.specs.declared.Slot.{Slot}
 use Rattle.account.specs.declared.Account.{Account}
 use Rattle.account.specs.Panel.{panel}
 use Rattle.account.specs.Places.{slotOf}
-use Rattle.account.specs.Order.{isUndecided, orderOf}
+use Rattle.account.specs.InOrder.{isUndecided, inOrderOf}
 use Rattle.account.specs.Steps.{Told′, toldOf}
 use Rattle.layout.specs.Answers.{Test, test, firstOf}
 use Rattle.register.specs.declared.Register.{Register}
@@ -67,7 +67,7 @@ callTests r bytes buffer =
     test (ltb (length bytes) (lengthBy kind)) 1 ∷
     test (ltb 15 (accountIn bytes)) 3 ∷
     test (ltb (length buffer) 315) 4 ∷
-    test (not (orderOf a)) 5 ∷
+    test (not (inOrderOf a)) 5 ∷
     test (leb kind 4 && (isInProgress a t || isHeld a t)) 6 ∷
     test (leb kind 4 && leb 8 (length (heldIn a))) 7 ∷
     test (leb 5 kind && not (isInProgress a t || isHeld a t)) 8 ∷
@@ -89,7 +89,7 @@ abbrev pub outlookTests : Register → (account number : ℕ) → List Test
 outlookTests r i n =
     let a = standingAt r i in
     test (ltb 15 i) 3 ∷
-    test (not (orderOf a)) 5 ∷
+    test (not (inOrderOf a)) 5 ∷
     test (leb (2 ^ undecidedIn a) n) 12 ∷
     []
 

@@ -13,7 +13,7 @@ use Rattle.rule.specs.Lists.{some-of, keep}
 use Rattle.rule.specs.Rule.{Decision, undecided, committed, Slot, slot}
 use Rattle.rule.specs.Step.{named, mark, without}
 use Rattle.rule.specs.Call.{namedCommitted}
-use Rattle.rule.specs.Order.{apart}
+use Rattle.rule.specs.InOrder.{apart}
 use Rattle.rule.proofs.Lists.{and-left, and-right, and-both, or-left, or-right, or-neither, some-append, keep-append, keep-none}
 
 eqb-other : (a b : ℕ) → eqb a b ≡ false → eqb b a ≡ false

@@ -9,11 +9,11 @@ use mathlib.Core.List.{List, [], _∷_, _++_}
 use native.Mathlib.Omega.{arith}
 use lib.ListN.{length}
 use Rattle.rule.specs.Lists.{keep}
-use Rattle.rule.specs.Rule.{Rule, Decision, undecided, committed, Slot, slot, Account, Message, request, commit, abort, accept, reject, hold, Verdict, Entry, voted, noted, applied, dropped, newAccount}
+use Rattle.rule.specs.Rule.{Rule, Decision, undecided, committed, Slot, slot, Account, Message, request, commit, abort, accept, reject, hold, Verdict, Weighing, Entry, voted, noted, applied, dropped, newAccount}
 use Rattle.rule.specs.Weigh.{decide}
 use Rattle.rule.specs.Call.{Answer, refused, taken, written, reached}
-use Rattle.rule.specs.Order.{oldestUndecided, oldestStaysHeld, staysHeld}
-use Rattle.rule.specs.History.{Fate, waiting, votedNo, ongoing, wasApplied, wasDropped, Line, line, note, notes, begun, afterCall, Seen, history, linesFrom, allEntries}
+use Rattle.rule.specs.InOrder.{oldestUndecided, oldestStaysHeld, staysHeld}
+use Rattle.rule.specs.History.{fateBy, Fate, waiting, votedNo, ongoing, wasApplied, wasDropped, Line, line, note, notes, begun, afterCall, Seen, history, linesFrom, allEntries}
 use Rattle.rule.specs.Vote.{Vote}
 use Rattle.rule.specs.Run.{run, GuardsHold}
 use Rattle.rule.specs.Demand.{serial, course, OneEnd, Turns, endedLine, endEntry, endsOwned, endsWritten, Right, Owned, AllOwned, HistoryOwned, Demand3, Demand3After}
@@ -28,7 +28,7 @@ use Rattle.rule.proofs.Turns.{total-append, turned}
 use Rattle.rule.proofs.Tells.{past-progress, past-held, past-applied}
 use Rattle.rule.proofs.Good.{Rest}
 use Rattle.rule.proofs.Reached.{history-kept}
-use Rattle.rule.proofs.InOrder.{held-verdict, oldest-undecided, every-outcome}
+use Rattle.rule.proofs.InOrderExactly.{held-verdict, oldest-undecided, every-outcome}
 use Rattle.rule.proofs.Course.{sorted-before, past-sorted, sorted-along}
 
 module _ {G E : Type 0} where
@@ -139,7 +139,7 @@ module _ {G S E B : Type 0} (R : Rule S E B) where
   past-passing (applied-past q l) = (λ q′. let z : _≡_ {A = ℕ} 0 1 = cc in absurd (omega arith), past-passing l)
 
   -- With nothing in progress the oldest held request would not stay held.
-  nothing-held : 1 ≤ R .room → (s : S) (progress held : List (Slot G E)) → progress ≡ [] → oldestStaysHeld R s progress held ≡ true → held ≡ []
+  nothing-held : 1 ≤ R .progressLimit → (s : S) (progress held : List (Slot G E)) → progress ≡ [] → oldestStaysHeld R s progress held ≡ true → held ≡ []
   nothing-held roomy s progress [] none h = refl
   nothing-held roomy s progress (slot t g e d ∷ held) none h = absurd (not-held (decide R e s [] .verdict) refl (rw none at h))
     where
@@ -150,12 +150,12 @@ module _ {G S E B : Type 0} (R : Rule S E B) where
 
   -- The oldest held request's vote is that it is held.
   held-vote : (s : S) (progress : List (Slot G E)) (t : ℕ) (g : G) (e : E) (d : Decision) (behind : List (Slot G E))
-      → oldestStaysHeld R s progress (slot t g e d ∷ behind) ≡ true → (n : ℕ) × Vote R [] progress s e hold n
+      → oldestStaysHeld R s progress (slot t g e d ∷ behind) ≡ true → (w : Weighing) × (w .verdict ≡ hold) × Vote R [] progress s e w
   held-vote s progress t g e d behind h =
       let w = decide R e s progress in
-      (w .weighed, vote-is R e s progress [] hold (w .weighed) (ap (λ (v : Verdict). record { verdict = v; weighed = w .weighed }) (held-verdict (w .verdict) h)))
+      (w, held-verdict (w .verdict) h, vote-is R e s progress [] w refl)
 
-  rest-right : 1 ≤ R .room → (a : Account G S E) (lines : List (Line G E)) → Rest R a lines → Right R a lines
+  rest-right : 1 ≤ R .progressLimit → (a : Account G S E) (lines : List (Line G E)) → Rest R a lines → Right R a lines
   rest-right roomy a lines h =
       record {
         progress = past-progress R (h .tied .past);
@@ -187,6 +187,12 @@ module _ {G S E B : Type 0} (R : Rule S E B) where
     abbrev ofEntries : List (Entry G E B) → ℕ
     ofEntries xs = total (yes-of (endEntry asked)) xs
 
+    -- no vote is an end
+    vote-open : (t : ℕ) (g : G) (e : E) (v : Verdict) → endedLine asked (line t g e (fateBy v) 0) ≡ false
+    vote-open t g e accept = refl
+    vote-open t g e reject = refl
+    vote-open t g e hold = refl
+
     turns-counted : (t : ℕ) (l l′ : Line G E) (lines lines′ : List (Line G E)) → endedLine asked l ≡ false → Turns t l l′ lines lines′
         → ofLines lines′ ≡ ofLines lines + yes-of (endedLine asked) l′
     turns-counted t l l′ lines lines′ q h =
@@ -194,9 +200,9 @@ module _ {G S E B : Type 0} (R : Rule S E B) where
         omega (arith, turned (yes-of (endedLine asked)) t l l′ lines lines′ h)
 
     note-counted : (lines : List (Line G E)) (x : Entry G E B) → Owned R lines x → ofLines (note lines x) ≡ ofLines lines + yes-of (endEntry asked) x
-    note-counted lines (voted accept t g e n) h = turns-counted t (line t g e waiting 0) (line t g e (ongoing undecided) 0) lines (note {B = B} lines (voted accept t g e n)) refl (h .0)
-    note-counted lines (voted reject t g e n) h = turns-counted t (line t g e waiting 0) (line t g e votedNo 0) lines (note {B = B} lines (voted reject t g e n)) refl (h .0)
-    note-counted lines (voted hold t g e n) h = turns-counted t (line t g e waiting 0) (line t g e waiting 0) lines (note {B = B} lines (voted hold t g e n)) refl (h .0)
+    note-counted lines (voted t g e w) h =
+        let none : yes-of (endedLine asked) (line t g e (fateBy (w .verdict)) 0) ≡ 0 = rw (vote-open t g e (w .verdict)) in
+        omega (arith, none, turns-counted t (line t g e waiting 0) (line t g e (fateBy (w .verdict)) 0) lines (note {B = B} lines (voted t g e w)) refl (h .0))
     note-counted lines (noted t g) h =
         turns-counted t (line t (h .0) (h .1) (ongoing undecided) 0) (line t (h .0) (h .1) (ongoing committed) 0) lines (note {B = B} lines (noted t g)) refl (h .2)
     note-counted lines (applied t g e b) h = turns-counted t (line t g e (ongoing committed) 0) (line t g e wasApplied 1) lines (note lines (applied t g e b)) refl (h .0)
@@ -231,7 +237,7 @@ module _ {G S E B : Type 0} (R : Rule S E B) where
   -- All ends, whichever they are: of entries, and of lines by the number beside each.
   ends-written : (xs : List (Entry G E B)) → endsWritten xs ≡ length (keep (endEntry anyEnd) xs)
   ends-written [] = refl
-  ends-written (voted v t g e n ∷ xs) = omega (arith, ends-written xs)
+  ends-written (voted t g e w ∷ xs) = omega (arith, ends-written xs)
   ends-written (noted t g ∷ xs) = omega (arith, ends-written xs)
   ends-written (applied t g e b ∷ xs) = omega (arith, ends-written xs)
   ends-written (dropped t g e ∷ xs) = omega (arith, ends-written xs)
@@ -245,7 +251,7 @@ module _ {G S E B : Type 0} (R : Rule S E B) where
   ends-owned (line t g e wasDropped k ∷ lines) h = omega (arith, h .0, ends-owned lines (h .1))
 
   -- Demand 3 of an account at rest whose entries have their owners,
-  pub kept-demand3 : 1 ≤ R .room → (a : Account G S E) (seen : List (Seen G E B)) → Rest R a (linesFrom [] seen) → HistoryOwned R [] seen → Demand3 R a seen
+  pub kept-demand3 : 1 ≤ R .progressLimit → (a : Account G S E) (seen : List (Seen G E B)) → Rest R a (linesFrom [] seen) → HistoryOwned R [] seen → Demand3 R a seen
   kept-demand3 roomy a seen h owned =
       record {
         right = rest-right roomy a (linesFrom [] seen) h;
@@ -255,6 +261,6 @@ module _ {G S E B : Type 0} (R : Rule S E B) where
         noOther = ends-written (allEntries seen) ∙ all-ended anyEnd seen owned ∙ sym (ends-owned (linesFrom [] seen) (past-ends (h .tied .past)));
       }
 
-  -- so for every list of messages to a new account, taken or refused, at any room of at least 1.
-  pub demand3 : 1 ≤ R .room → (ms : List (Message G E)) → Demand3After R ms
+  -- so for every list of messages to a new account, taken or refused, at any limit on events in progress of at least 1.
+  pub demand3 : 1 ≤ R .progressLimit → (ms : List (Message G E)) → Demand3After R ms
   demand3 roomy ms = let k = history-kept R ms in kept-demand3 roomy (reached R (newAccount R G) ms) (history R (newAccount R G) ms) (k .0) (k .1)

@@ -197,9 +197,9 @@ one-outcome : (b : Bool) → cond (b && true) accept (cond (b || false) hold rej
 one-outcome true h = let z : _≡_ {A = ℕ} 0 1 = cc in omega arith
 one-outcome false h = let z : _≡_ {A = ℕ} 0 1 = cc in omega arith
 
-pub idle-decide : (G : Type 0) {S E B : Type 0} (R : Rule S E B) (e : E) (s : S) → 1 ≤ R .room → decide {G = G} R e s [] .verdict ≡ hold → ⊥
+pub idle-decide : (G : Type 0) {S E B : Type 0} (R : Rule S E B) (e : E) (s : S) → 1 ≤ R .progressLimit → decide {G = G} R e s [] .verdict ≡ hold → ⊥
 unfolding decide weigh outcomes
-idle-decide G R e s roomy h = one-outcome (R .guard e s) (rw (lt-leb (R .room) 0 roomy) at h)
+idle-decide G R e s roomy h = one-outcome (R .guard e s) (rw (lt-leb (R .progressLimit) 0 roomy) at h)
 
 module _ {G S E B : Type 0} (R : Rule S E B) (e : E) (s : S) where
   pub decided : (progress held : List (Slot G E)) → Decided R e s progress held
@@ -207,8 +207,8 @@ module _ {G S E B : Type 0} (R : Rule S E B) (e : E) (s : S) where
   decided progress [] =
       record {
         behind = λ h. absurd (h refl);
-        full = λ h l. rw (le-leb (R .room) (length progress) l);
-        free = λ h l. rw (lt-leb (R .room) (length progress) l, outcomes-length R progress s);
+        full = λ h l. rw (le-leb (R .progressLimit) (length progress) l);
+        free = λ h l. rw (lt-leb (R .progressLimit) (length progress) l, outcomes-length R progress s);
         idle = λ h roomy empty v. idle-decide G R e s roomy (rw empty at v);
       }
   decided progress (x ∷ held) =

@@ -8,7 +8,7 @@ use mathlib.Core.Option.{Option, none, some}
 use lib.Dec.{eqb, leb}
 use lib.ListN.{length, length-map}
 use Rattle.rule.specs.Lists.{some-of, keep, numbers}
-use Rattle.rule.specs.Rule.{Rule, undecided, committed, Slot, slot, Account, Message, request, commit, abort, Verdict, accept, reject, hold, Entry, voted, applied, dropped, newAccount}
+use Rattle.rule.specs.Rule.{Rule, undecided, committed, Slot, slot, Account, Message, request, commit, abort, Verdict, accept, reject, hold, Weighing, Entry, voted, applied, dropped, newAccount}
 use Rattle.rule.specs.Outcome.{undecidedOf, outcome, outcomes}
 use Rattle.rule.specs.Weigh.{unweighed, weigh, decide, decideBehind}
 use Rattle.rule.specs.Step.{Step, named, mark, without, dropping, after, settledState, applications, unsettled, drainBy, askedBy, drain, settle, asked, committing, aborting, step}
@@ -82,7 +82,7 @@ module _ {G H S E B : Type 0} (R : Rule S E B) (f : G → H) where
   decide-through : (e : E) (s : S) (xs : List (Slot G E)) → decide R e s (map (slotThrough f) xs) ≡ decide R e s xs
   unfolding decide
   decide-through e s xs =
-      ap₂ (λ (n : ℕ) (o : List S). cond (leb (R .room) n) unweighed (record { verdict = weigh R e o; weighed = length o }))
+      ap₂ (λ (n : ℕ) (o : List S). cond (leb (R .progressLimit) n) unweighed (record { verdict = weigh R e o; weighed = length o }))
       (length-map xs (slotThrough f)) (outcomes-through xs s)
 
   behind-through : (e : E) (s : S) (held xs : List (Slot G E)) → decideBehind R (map (slotThrough f) held) e s (map (slotThrough f) xs) ≡ decideBehind R held e s xs
@@ -102,16 +102,16 @@ module _ {G H S E B : Type 0} (R : Rule S E B) (f : G → H) where
 
   drain-through : (s : S) (held xs : List (Slot G E)) → drain R s (map (slotThrough f) xs) (map (slotThrough f) held) ≡ stepThrough f (drain R s xs held)
   drain-through s [] xs = refl
-  drain-through s (slot t g e d ∷ held) xs = rw (decide-through e s xs) (by (decide R e s xs .verdict) (decide R e s xs .weighed) (λ ys. drain-through s held ys))
+  drain-through s (slot t g e d ∷ held) xs = rw (decide-through e s xs) (by (decide R e s xs .verdict) (decide R e s xs) (λ ys. drain-through s held ys))
     where
-      by : (v : Verdict) (n : ℕ) → ((ys : List (Slot G E)) → drain R s (map (slotThrough f) ys) (map (slotThrough f) held) ≡ stepThrough f (drain R s ys held))
-          → drainBy v n (slot t (f g) e d) s (map (slotThrough f) xs) (map (slotThrough f) held) (λ (ys : List (Slot H E)). drain R s ys (map (slotThrough f) held))
-          ≡ stepThrough f (drainBy v n (slot t g e d) s xs held (λ (ys : List (Slot G E)). drain R s ys held))
-      by accept n rest =
-          ap (after (voted accept t (f g) e n ∷ []))
+      by : (v : Verdict) (w : Weighing) → ((ys : List (Slot G E)) → drain R s (map (slotThrough f) ys) (map (slotThrough f) held) ≡ stepThrough f (drain R s ys held))
+          → drainBy v w (slot t (f g) e d) s (map (slotThrough f) xs) (map (slotThrough f) held) (λ (ys : List (Slot H E)). drain R s ys (map (slotThrough f) held))
+          ≡ stepThrough f (drainBy v w (slot t g e d) s xs held (λ (ys : List (Slot G E)). drain R s ys held))
+      by accept w rest =
+          ap (after (voted t (f g) e w ∷ []))
           (ap (λ (l : List (Slot H E)). drain R s l (map (slotThrough f) held)) (sym (map-append (slotThrough f) xs (slot t g e undecided ∷ []))) ∙ rest (xs ++ (slot t g e undecided ∷ [])))
-      by reject n rest = ap (after (voted reject t (f g) e n ∷ [])) (rest xs)
-      by hold n rest = refl
+      by reject w rest = ap (after (voted t (f g) e w ∷ [])) (rest xs)
+      by hold w rest = refl
 
   settle-through : (s : S) (xs held : List (Slot G E)) → settle R s (map (slotThrough f) xs) (map (slotThrough f) held) ≡ stepThrough f (settle R s xs held)
   unfolding settle

@@ -11,11 +11,11 @@ use lib.Dec.{leb}
 use lib.ListN.{length, length-append}
 use borrow.Author.Tests.{leb-false, eq-eqb}
 use Rattle.rule.specs.Lists.{every, some-of}
-use Rattle.rule.specs.Rule.{Rule, Decision, undecided, committed, Slot, slot, Account, Verdict, accept, reject, hold, Entry, voted, applied}
+use Rattle.rule.specs.Rule.{Rule, Decision, undecided, committed, Slot, slot, Account, Verdict, accept, reject, hold, Weighing, Entry, voted, applied}
 use Rattle.rule.specs.Outcome.{outcomes}
-use Rattle.rule.specs.Weigh.{Weighing, unweighed, weigh, decide}
+use Rattle.rule.specs.Weigh.{unweighed, weigh, decide}
 use Rattle.rule.specs.Step.{Step, named, drainBy, drain, settle}
-use Rattle.rule.specs.Order.{apart, oldestUndecided, oldestStaysHeld}
+use Rattle.rule.specs.InOrder.{apart, oldestUndecided, oldestStaysHeld}
 use Rattle.rule.specs.History.{waiting, votedNo, ongoing, wasApplied, fateBy, Line, line, owners, note, notes}
 use Rattle.rule.specs.Demand.{appliedEvents, Voted, Owned, AllOwned}
 use Rattle.rule.proofs.Lists.{or-left, or-right, keep-none, some-append}
@@ -32,8 +32,8 @@ module _ {G S E B : Type 0} (R : Rule S E B) where
     pub past : Past R (R .fresh) lines s progress held
     pub safe : Safe R progress s
     pub transactions : apart (progress ++ held) ≡ true
-    pub few : length progress ≤ R .room
-    pub fewHeld : length held ≤ R .bench
+    pub few : length progress ≤ R .progressLimit
+    pub fewHeld : length held ≤ R .heldLimit
 
   pub record Rest (a : Account G S E) (lines : List (Line G E)) : Type 0 where
     pub tied : Tied (a .state) (a .progress) (a .held) lines
@@ -46,24 +46,24 @@ module _ {G S E B : Type 0} (R : Rule S E B) where
 
   -- What a verdict says: an acceptance, that a place is free and the guard holds in every outcome.
   decide-accept : (e : E) (s : S) (progress : List (Slot G E))
-      → decide R e s progress .verdict ≡ accept → (length progress < R .room) × (every (R .guard e) (outcomes R progress s) ≡ true)
+      → decide R e s progress .verdict ≡ accept → (length progress < R .progressLimit) × (every (R .guard e) (outcomes R progress s) ≡ true)
   unfolding decide weigh
-  decide-accept e s progress h = full (leb (R .room) (length progress)) refl h
+  decide-accept e s progress h = full (leb (R .progressLimit) (length progress)) refl h
     where
       chosen : (a b : Bool) → cond a accept (cond b hold reject) ≡ accept → a ≡ true
       chosen true b k = refl
       chosen false true k = let z : _≡_ {A = ℕ} 0 1 = cc in absurd (omega arith)
       chosen false false k = let z : _≡_ {A = ℕ} 0 1 = cc in absurd (omega arith)
 
-      full : (b : Bool) → leb (R .room) (length progress) ≡ b
+      full : (b : Bool) → leb (R .progressLimit) (length progress) ≡ b
           → cond b unweighed (record { verdict = weigh R e (outcomes R progress s); weighed = length (outcomes R progress s) }) .verdict ≡ accept
-          → (length progress < R .room) × (every (R .guard e) (outcomes R progress s) ≡ true)
+          → (length progress < R .progressLimit) × (every (R .guard e) (outcomes R progress s) ≡ true)
       full true q k = let z : _≡_ {A = ℕ} 0 1 = cc in absurd (omega arith)
-      full false q k = (leb-false (R .room) (length progress) q, chosen (every (R .guard e) (outcomes R progress s)) (some-of (R .guard e) (outcomes R progress s)) k)
+      full false q k = (leb-false (R .progressLimit) (length progress) q, chosen (every (R .guard e) (outcomes R progress s)) (some-of (R .guard e) (outcomes R progress s)) k)
 
   -- a vote of these accounts
-  abbrev pub vote : Verdict → ℕ → G → E → ℕ → Entry G E B
-  vote v t g e n = voted v t g e n
+  abbrev pub vote : ℕ → G → E → Weighing → Entry G E B
+  vote t g e w = voted t g e w
 
   module _ (s : S) (progress held : List (Slot G E)) (t : ℕ) (g : G) (e : E) (lines : List (Line G E)) where
     -- the oldest held request is the one owner of an entry of its transaction
@@ -74,43 +74,42 @@ module _ {G S E B : Type 0} (R : Rule S E B) where
         ∙ rw (keep-none (named t) progress (p .0), eq-eqb t t refl, keep-none (named t) held (p .1))
 
     -- and the vote on it, with nothing held before it, is the entry's
-    oldest-vote : (v : Verdict) (n : ℕ) → Tied s progress (slot t g e undecided ∷ held) lines → decide R e s progress ≡ record { verdict = v; weighed = n }
-        → Voted R lines v (fateBy v) t g e n
-    oldest-vote v n h q =
+    oldest-vote : (w : Weighing) → Tied s progress (slot t g e undecided ∷ held) lines → decide R e s progress ≡ w → Voted R lines t g e w
+    oldest-vote w h q =
         let first = past-first R t g e undecided (h .past) in (
-          turns-at t g e waiting (fateBy v) 0 lines (first .0) (first .1) refl (first .2) (oldest-owner h),
-          rw (first .3, ← past-progress R (h .past), past-applied R (h .past)) (vote-is R e s progress [] v n q),
+          turns-at t g e waiting (fateBy (w .verdict)) 0 lines (first .0) (first .1) refl (first .2) (oldest-owner h),
+          rw (first .3, ← past-progress R (h .past), past-applied R (h .past)) (vote-is R e s progress [] w q),
         )
 
     -- The oldest held request is accepted,
-    pub accepted : (n : ℕ) → Tied s progress (slot t g e undecided ∷ held) lines → decide R e s progress ≡ record { verdict = accept; weighed = n }
-        → Tied s (progress ++ (slot t g e undecided ∷ [])) held (note lines (vote accept t g e n)) × Owned R lines (voted accept t g e n)
-    accepted n h v =
+    pub accepted : (w : Weighing) → Tied s progress (slot t g e undecided ∷ held) lines → decide R e s progress ≡ w → w .verdict ≡ accept
+        → Tied s (progress ++ (slot t g e undecided ∷ [])) held (note lines (vote t g e w)) × Owned R lines (voted t g e w)
+    accepted w h is v =
         let p = apart-at progress t g e undecided held (h .transactions) in
-        let q = decide-accept e s progress (ap (λ (w : Weighing). w .verdict) v) in (
+        let q = decide-accept e s progress (ap (λ (x : Weighing). x .verdict) is ∙ v) in (
           record {
-            past = past-noting R t (ongoing undecided) 0 (λ lines′ l. live-accept t g e undecided l (p .0) (p .1)) (h .past);
+            past = rw v (past-noting R t (ongoing undecided) 0 (λ lines′ l. live-accept t g e undecided l (p .0) (p .1)) (h .past));
             safe = safe-accept R t g e undecided progress s (h .safe) (every-way R (R .guard e) progress s (q .1));
             transactions = rw (append-assoc progress (slot t g e undecided ∷ []) held) (h .transactions);
             few = rw (length-append progress (slot t g e undecided ∷ [])) (omega (arith, q .0));
             fewHeld = omega (arith, h .fewHeld);
           },
-          oldest-vote accept n h v,
+          oldest-vote w h is,
         )
 
     -- or it is rejected.
-    pub rejected : (n : ℕ) → Tied s progress (slot t g e undecided ∷ held) lines → decide R e s progress ≡ record { verdict = reject; weighed = n }
-        → Tied s progress held (note lines (vote reject t g e n)) × Owned R lines (voted reject t g e n)
-    rejected n h v =
+    pub rejected : (w : Weighing) → Tied s progress (slot t g e undecided ∷ held) lines → decide R e s progress ≡ w → w .verdict ≡ reject
+        → Tied s progress held (note lines (vote t g e w)) × Owned R lines (voted t g e w)
+    rejected w h is v =
         let p = apart-at progress t g e undecided held (h .transactions) in (
           record {
-            past = past-noting R t votedNo 0 (λ lines′ l. live-reject t g e undecided l (p .0) (p .1)) (h .past);
+            past = rw v (past-noting R t votedNo 0 (λ lines′ l. live-reject t g e undecided l (p .0) (p .1)) (h .past));
             safe = h .safe;
             transactions = apart-less progress (slot t g e undecided) held (h .transactions);
             few = h .few;
             fewHeld = omega (arith, h .fewHeld);
           },
-          oldest-vote reject n h v,
+          oldest-vote w h is,
         )
 
   pub oldest-append : (progress : List (Slot G E)) (t : ℕ) (g : G) (e : E) → oldestUndecided progress ≡ true → oldestUndecided (progress ++ (slot t g e undecided ∷ [])) ≡ true
@@ -123,31 +122,34 @@ module _ {G S E B : Type 0} (R : Rule S E B) where
       → Tied s progress held lines → oldestUndecided progress ≡ true → Done lines (drain R s progress held)
   drained s [] progress lines h o = (record { tied = h; oldest = o; stays = refl }, tt)
   drained s (slot t g e d ∷ held) progress lines h o =
-      decided (sym (past-undecided R (h .past))) (decide R e s progress .verdict) (decide R e s progress .weighed) refl h
+      decided (sym (past-undecided R (h .past))) (w .verdict) refl h
       (λ progress′ lines′ h′ o′. drained s held progress′ lines′ h′ o′)
     where
-      Goal : Decision → Verdict → ℕ → Type 0
-      Goal d′ v n = Done lines (drainBy v n (slot t g e d′) s progress held (λ (progress′ : List (Slot G E)). drain R s progress′ held))
+      w : Weighing
+      w = decide R e s progress
 
-      by : (v : Verdict) (n : ℕ) → decide R e s progress ≡ record { verdict = v; weighed = n } → Tied s progress (slot t g e undecided ∷ held) lines
-          → ((progress′ : List (Slot G E)) (lines′ : List (Line G E)) → Tied s progress′ held lines′ → oldestUndecided progress′ ≡ true → Done lines′ (drain R s progress′ held))
-          → Goal undecided v n
-      by accept n v h′ rest =
-          let k = accepted s progress held t g e lines n h′ v in
-          let r = rest (progress ++ (slot t g e undecided ∷ [])) (note lines (vote accept t g e n)) (k .0) (oldest-append progress t g e o) in
-          (r .0, (k .1, r .1))
-      by reject n v h′ rest =
-          let k = rejected s progress held t g e lines n h′ v in
-          let r = rest progress (note lines (vote reject t g e n)) (k .0) o in
-          (r .0, (k .1, r .1))
-      by hold n v h′ rest = (record { tied = h′; oldest = o; stays = rw (ap (λ (w : Weighing). w .verdict) v) }, tt)
+      Goal : Decision → Verdict → Type 0
+      Goal d′ v = Done lines (drainBy v w (slot t g e d′) s progress held (λ (progress′ : List (Slot G E)). drain R s progress′ held))
 
-      decided : undecided ≡ d → (v : Verdict) (n : ℕ) → decide R e s progress ≡ record { verdict = v; weighed = n } → Tied s progress (slot t g e d ∷ held) lines
+      by : (v : Verdict) → w .verdict ≡ v → Tied s progress (slot t g e undecided ∷ held) lines
           → ((progress′ : List (Slot G E)) (lines′ : List (Line G E)) → Tied s progress′ held lines′ → oldestUndecided progress′ ≡ true → Done lines′ (drain R s progress′ held))
-          → Goal d v n
-      decided same v n k h′ rest =
-          subst (λ (d′ : Decision). Goal d′ v n) same
-          (by v n k (subst (λ (d′ : Decision). Tied s progress (slot t g e d′ ∷ held) lines) (sym same) h′) rest)
+          → Goal undecided v
+      by accept v h′ rest =
+          let k = accepted s progress held t g e lines w h′ refl v in
+          let r = rest (progress ++ (slot t g e undecided ∷ [])) (note lines (vote t g e w)) (k .0) (oldest-append progress t g e o) in
+          (r .0, (k .1, r .1))
+      by reject v h′ rest =
+          let k = rejected s progress held t g e lines w h′ refl v in
+          let r = rest progress (note lines (vote t g e w)) (k .0) o in
+          (r .0, (k .1, r .1))
+      by hold v h′ rest = (record { tied = h′; oldest = o; stays = rw v }, tt)
+
+      decided : undecided ≡ d → (v : Verdict) → w .verdict ≡ v → Tied s progress (slot t g e d ∷ held) lines
+          → ((progress′ : List (Slot G E)) (lines′ : List (Line G E)) → Tied s progress′ held lines′ → oldestUndecided progress′ ≡ true → Done lines′ (drain R s progress′ held))
+          → Goal d v
+      decided same v k h′ rest =
+          subst (λ (d′ : Decision). Goal d′ v) same
+          (by v k (subst (λ (d′ : Decision). Tied s progress (slot t g e d′ ∷ held) lines) (sym same) h′) rest)
 
   -- Settling: the oldest event, if committed, is applied, and the rest by induction; then the held requests are drained.
   pub settled : (progress : List (Slot G E)) (s : S) (held : List (Slot G E)) (lines : List (Line G E))

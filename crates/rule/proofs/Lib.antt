@@ -11,8 +11,8 @@ pub mod Apart
 pub mod Good
 pub mod Taken
 pub mod Reached
-pub mod Order
 pub mod InOrder
+pub mod InOrderExactly
 pub mod Demand
 pub mod Readings
 pub mod Course

@@ -1,11 +1,11 @@
 -- The readings of the lines: of one line they compute; over more they go by induction on the lines before.
 -- Assumes nothing.
 use Prim.Native.Nat.{ℕ}
-use mathlib.Core.Path.{_≡_, refl, ap}
+use mathlib.Core.Path.{_≡_, refl, ap, _∙_}
 use mathlib.Core.List.{List, [], _∷_, _++_}
 use native.Mathlib.Omega.{arith}
 use borrow.Author.Tests.{eq-eqb, ne-eqb}
-use Rattle.rule.specs.Rule.{undecided, committed, Slot, slot, Verdict, accept, reject, hold, Entry, voted, noted, applied, dropped}
+use Rattle.rule.specs.Rule.{undecided, committed, Slot, slot, Verdict, accept, reject, hold, Weighing, Entry, voted, noted, applied, dropped}
 use Rattle.rule.specs.Outcome.{undecidedOf}
 use Rattle.rule.specs.History.{waiting, votedNo, ongoing, wasApplied, wasDropped, Line, line, owns}
 use Rattle.rule.specs.Demand.{inProgress, onHold, serial, appliedEvents, course}
@@ -90,8 +90,8 @@ module _ {G E : Type 0} where
         stopped = serial-stops xs ys;
       }
 
-pub one-entry : {G E B : Type 0} (v : Verdict) (t : ℕ) (g : G) (e : E) (n : ℕ) (b : B) → OneEntry v t g e n b
-one-entry v t g e n b = record { ends = refl }
+pub one-entry : {G E B : Type 0} (t : ℕ) (g : G) (e : E) (w : Weighing) (b : B) → OneEntry t g e w b
+one-entry t g e w b = record { ends = refl }
 
 module _ {G E B : Type 0} where
   -- what is asked of every entry is asked of each at its place, and the other way round
@@ -102,50 +102,46 @@ module _ {G E B : Type 0} where
   IsApplied x = (t : ℕ) × (g : G) × (e : E) × (b : B) × (x ≡ applied t g e b)
 
   abbrev IsDecided : Entry G E B → Type 0
-  IsDecided x = (v : Verdict) × (t : ℕ) × (g : G) × (e : E) × (n : ℕ) × (x ≡ voted v t g e n) × (v ≡ hold → ⊥)
+  IsDecided x = (t : ℕ) × (g : G) × (e : E) × (w : Weighing) × (x ≡ voted t g e w) × (w .verdict ≡ hold → ⊥)
 
   at-rest : (P : Entry G E B → Type 0) (x : Entry G E B) (xs : List (Entry G E B)) → AtPlaces P (x ∷ xs) → AtPlaces P xs
   at-rest P x xs h before behind y q = h (x ∷ before) behind y (ap (λ (l : List (Entry G E B)). x ∷ l) q)
 
   applied-at : (before behind : List (Entry G E B)) (x : Entry G E B) → OnlyApplied (before ++ (x ∷ behind)) → IsApplied x
-  applied-at [] behind (voted v t g e n) h = absurd h
+  applied-at [] behind (voted t g e w) h = absurd h
   applied-at [] behind (noted t g) h = absurd h
   applied-at [] behind (applied t g e b) h = (t, g, e, b, refl)
   applied-at [] behind (dropped t g e) h = absurd h
-  applied-at (voted v t g e n ∷ before) behind x h = absurd h
+  applied-at (voted t g e w ∷ before) behind x h = absurd h
   applied-at (noted t g ∷ before) behind x h = absurd h
   applied-at (applied t g e b ∷ before) behind x h = applied-at before behind x h
   applied-at (dropped t g e ∷ before) behind x h = absurd h
 
   at-applied : (xs : List (Entry G E B)) → AtPlaces IsApplied xs → OnlyApplied xs
   at-applied [] h = tt
-  at-applied (voted v t g e n ∷ xs) h = let r = h [] xs (voted v t g e n) refl .4 in let z : _≡_ {A = ℕ} 0 1 = cc r in absurd (omega arith)
+  at-applied (voted t g e w ∷ xs) h = let r = h [] xs (voted t g e w) refl .4 in let z : _≡_ {A = ℕ} 0 1 = cc r in absurd (omega arith)
   at-applied (noted t g ∷ xs) h = let r = h [] xs (noted t g) refl .4 in let z : _≡_ {A = ℕ} 0 1 = cc r in absurd (omega arith)
   at-applied (applied t g e b ∷ xs) h = at-applied xs (at-rest IsApplied (applied t g e b) xs h)
   at-applied (dropped t g e ∷ xs) h = let r = h [] xs (dropped t g e) refl .4 in let z : _≡_ {A = ℕ} 0 1 = cc r in absurd (omega arith)
 
   decided-at : (before behind : List (Entry G E B)) (x : Entry G E B) → OnlyDecided (before ++ (x ∷ behind)) → IsDecided x
-  decided-at [] behind (voted accept t g e n) h = (accept, t, g, e, n, refl, λ q. let z : _≡_ {A = ℕ} 0 1 = cc in omega arith)
-  decided-at [] behind (voted reject t g e n) h = (reject, t, g, e, n, refl, λ q. let z : _≡_ {A = ℕ} 0 1 = cc in omega arith)
-  decided-at [] behind (voted hold t g e n) h = absurd h
+  decided-at [] behind (voted t g e w) h = (t, g, e, w, refl, h .0)
   decided-at [] behind (noted t g) h = absurd h
   decided-at [] behind (applied t g e b) h = absurd h
   decided-at [] behind (dropped t g e) h = absurd h
-  decided-at (voted accept t g e n ∷ before) behind x h = decided-at before behind x h
-  decided-at (voted reject t g e n ∷ before) behind x h = decided-at before behind x h
-  decided-at (voted hold t g e n ∷ before) behind x h = absurd h
+  decided-at (voted t g e w ∷ before) behind x h = decided-at before behind x (h .1)
   decided-at (noted t g ∷ before) behind x h = absurd h
   decided-at (applied t g e b ∷ before) behind x h = absurd h
   decided-at (dropped t g e ∷ before) behind x h = absurd h
 
   at-decided : (xs : List (Entry G E B)) → AtPlaces IsDecided xs → OnlyDecided xs
   at-decided [] h = tt
-  at-decided (voted accept t g e n ∷ xs) h = at-decided xs (at-rest IsDecided (voted accept t g e n) xs h)
-  at-decided (voted reject t g e n ∷ xs) h = at-decided xs (at-rest IsDecided (voted reject t g e n) xs h)
-  at-decided (voted hold t g e n ∷ xs) h = let r = h [] xs (voted hold t g e n) refl in r .6 (let z : r .0 ≡ hold = cc (r .5) in z)
-  at-decided (noted t g ∷ xs) h = let r = h [] xs (noted t g) refl .5 in let z : _≡_ {A = ℕ} 0 1 = cc r in absurd (omega arith)
-  at-decided (applied t g e b ∷ xs) h = let r = h [] xs (applied t g e b) refl .5 in let z : _≡_ {A = ℕ} 0 1 = cc r in absurd (omega arith)
-  at-decided (dropped t g e ∷ xs) h = let r = h [] xs (dropped t g e) refl .5 in let z : _≡_ {A = ℕ} 0 1 = cc r in absurd (omega arith)
+  at-decided (voted t g e w ∷ xs) h =
+      let r = h [] xs (voted t g e w) refl in
+      (λ held. r .5 (let same : r .3 ≡ w = cc (r .4) in ap (λ (x : Weighing). x .verdict) same ∙ held), at-decided xs (at-rest IsDecided (voted t g e w) xs h))
+  at-decided (noted t g ∷ xs) h = let r = h [] xs (noted t g) refl .4 in let z : _≡_ {A = ℕ} 0 1 = cc r in absurd (omega arith)
+  at-decided (applied t g e b ∷ xs) h = let r = h [] xs (applied t g e b) refl .4 in let z : _≡_ {A = ℕ} 0 1 = cc r in absurd (omega arith)
+  at-decided (dropped t g e ∷ xs) h = let r = h [] xs (dropped t g e) refl .4 in let z : _≡_ {A = ℕ} 0 1 = cc r in absurd (omega arith)
 
   pub only-these : (xs : List (Entry G E B)) → OnlyThese xs
   only-these xs =

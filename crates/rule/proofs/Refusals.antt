@@ -110,7 +110,7 @@ module _ {G S E B : Type 0} (R : Rule S E B) (a : Account G S E) (t : ℕ) (g : 
       let m : Message G E = request t g e in
       let p = some-of (named t) (a .progress) in
       let h = some-of (named t) (a .held) in
-      let l = leb (R .bench) (length (a .held)) in
+      let l = leb (R .heldLimit) (length (a .held)) in
       let seventh = test l 7 none in
       let six′ = first (p || h) 6 seventh (passed l 7 6 none (λ z. omega arith) (ended 6)) in
       let seven′ = later (p || h) 6 7 seventh (λ z. omega arith) in
@@ -121,8 +121,8 @@ module _ {G S E B : Type 0} (R : Rule S E B) (a : Account G S E) (t : ℕ) (g : 
         seven = (
           λ q.
               let r = seven′ .0 (gives R a m 7 .0 q) in
-              (λ x. r .0 (either-way .1 (inl x)), λ x. r .0 (either-way .1 (inr x)), leb-true (R .bench) (length (a .held)) (last .0 (r .1))),
-          λ q. gives R a m 7 .1 (seven′ .1 (λ x. ⊎-elim (q .0) (q .1) (either-way .0 x), last .1 (le-leb (R .bench) (length (a .held)) (q .2)))),
+              (λ x. r .0 (either-way .1 (inl x)), λ x. r .0 (either-way .1 (inr x)), leb-true (R .heldLimit) (length (a .held)) (last .0 (r .1))),
+          λ q. gives R a m 7 .1 (seven′ .1 (λ x. ⊎-elim (q .0) (q .1) (either-way .0 x), last .1 (le-leb (R .heldLimit) (length (a .held)) (q .2)))),
         );
         only =
             λ n q.

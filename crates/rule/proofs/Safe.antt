@@ -12,7 +12,7 @@ use Rattle.rule.specs.Rule.{Rule, Decision, undecided, committed, Slot, 
 use Rattle.rule.specs.Outcome.{outcome, outcomes}
 use Rattle.rule.specs.Step.{mark, without, settledState, unsettled}
 use Rattle.rule.specs.Call.{namedCommitted}
-use Rattle.rule.specs.Order.{guarded}
+use Rattle.rule.specs.InOrder.{guarded}
 use Rattle.rule.proofs.Lists.{and-left, and-right, and-both, or-left, or-right}
 use Rattle.rule.proofs.Outcomes.{tally, no-of}
 use Rattle.rule.proofs.Ways.{no-zero, zero-no, every-way, way-every}

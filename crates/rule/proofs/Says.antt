@@ -12,7 +12,7 @@ use lib.Pow.{pow-mono}
 use lib.ListN.{length}
 use borrow.Author.Tests.{leb-false}
 use Rattle.rule.specs.Lists.{keep}
-use Rattle.rule.specs.Rule.{Rule, undecided, committed, Slot, slot, Account, Message, request, commit, abort, Verdict, accept, reject, hold, Entry}
+use Rattle.rule.specs.Rule.{Rule, undecided, committed, Slot, slot, Account, Message, request, commit, abort, Verdict, accept, reject, hold, Weighing, Entry}
 use Rattle.rule.specs.Outcome.{undecidedOf, outcomes}
 use Rattle.rule.specs.Weigh.{unweighed, weigh, decide, decideBehind}
 use Rattle.rule.specs.Step.{Step, named, mark, without, dropping, settledState, applications, unsettled, drainBy, askedBy, drain, settle, asked, committing, aborting, step}
@@ -26,18 +26,18 @@ undecided-few (slot t g e undecided ∷ xs) = omega (arith, undecided-few xs)
 undecided-few (slot t g e committed ∷ xs) = omega (arith, undecided-few xs)
 
 module _ {G S E B : Type 0} (R : Rule S E B) (e : E) (s : S) where
-  -- a count of outcomes is within 2 to the power of the room
-  weighed-few : (xs : List (Slot G E)) → decide R e s xs .weighed ≤ 2 ^ R .room
+  -- a count of outcomes is within 2 to the power of the limit on events in progress
+  weighed-few : (xs : List (Slot G E)) → decide R e s xs .weighed ≤ 2 ^ R .progressLimit
   unfolding decide
-  weighed-few xs = go (leb (R .room) (length xs)) refl
+  weighed-few xs = go (leb (R .progressLimit) (length xs)) refl
     where
-      go : (b : Bool) → leb (R .room) (length xs) ≡ b
-          → cond b unweighed (record { verdict = weigh R e (outcomes R xs s); weighed = length (outcomes R xs s) }) .weighed ≤ 2 ^ R .room
+      go : (b : Bool) → leb (R .progressLimit) (length xs) ≡ b
+          → cond b unweighed (record { verdict = weigh R e (outcomes R xs s); weighed = length (outcomes R xs s) }) .weighed ≤ 2 ^ R .progressLimit
       go true q = omega arith
       go false q =
-          le-trans (le-of-eq (outcomes-length R xs s)) (pow-mono (omega (arith, undecided-few xs, leb-false (R .room) (length xs) q)))
+          le-trans (le-of-eq (outcomes-length R xs s)) (pow-mono (omega (arith, undecided-few xs, leb-false (R .progressLimit) (length xs) q)))
 
-  behind-few : (held xs : List (Slot G E)) → decideBehind R held e s xs .weighed ≤ 2 ^ R .room
+  behind-few : (held xs : List (Slot G E)) → decideBehind R held e s xs .weighed ≤ 2 ^ R .progressLimit
   behind-few [] xs = weighed-few xs
   behind-few (x ∷ held) xs = omega arith
 
@@ -92,15 +92,15 @@ module _ {G S E B : Type 0} (R : Rule S E B) (P : ℕ → G → E → Type 0) (Q
   unfolding Says
   drain-says s [] progress h k l = (record { state = h; progress = k; held = tt }, tt)
   drain-says s (slot t g e d ∷ held) progress h k l =
-      by (decide R e s progress .verdict) (decide R e s progress .weighed) (weighed-few R e s progress) (λ progress′ k′. drain-says s held progress′ h k′ (l .1))
+      by (decide R e s progress .verdict) (decide R e s progress) (weighed-few R e s progress) (λ progress′ k′. drain-says s held progress′ h k′ (l .1))
     where
-      by : (v : Verdict) (n : ℕ) → n ≤ 2 ^ R .room → ((progress′ : List (Slot G E)) → SlotsSay P progress′ → Says (drain R s progress′ held))
-          → Says (drainBy v n (slot t g e d) s progress held (λ (progress′ : List (Slot G E)). drain R s progress′ held))
-      by accept n few rest =
+      by : (v : Verdict) (w : Weighing) → w .weighed ≤ 2 ^ R .progressLimit → ((progress′ : List (Slot G E)) → SlotsSay P progress′ → Says (drain R s progress′ held))
+          → Says (drainBy v w (slot t g e d) s progress held (λ (progress′ : List (Slot G E)). drain R s progress′ held))
+      by accept w few rest =
           let r = rest (progress ++ (slot t g e undecided ∷ [])) (say-append P progress (slot t g e undecided ∷ []) k (l .0, tt)) in
           (r .0, ((l .0, few), r .1))
-      by reject n few rest = let r = rest progress k in (r .0, ((l .0, few), r .1))
-      by hold n few rest = (record { state = h; progress = k; held = l }, tt)
+      by reject w few rest = let r = rest progress k in (r .0, ((l .0, few), r .1))
+      by hold w few rest = (record { state = h; progress = k; held = l }, tt)
 
   settle-says : (s : S) (progress held : List (Slot G E)) → K s → SlotsSay P progress → SlotsSay P held → Says (settle R s progress held)
   unfolding Says settle

@@ -12,11 +12,11 @@ use lib.Dec.{leb}
 use lib.ListN.{length, length-append, length-map}
 use borrow.Author.Tests.{leb-false, eq-eqb}
 use Rattle.rule.specs.Lists.{some-of}
-use Rattle.rule.specs.Rule.{Rule, undecided, committed, Slot, slot, Account, Message, request, commit, abort, Verdict, accept, reject, hold, Entry, noted, dropped}
-use Rattle.rule.specs.Weigh.{Weighing, decide, decideBehind}
+use Rattle.rule.specs.Rule.{Rule, undecided, committed, Slot, slot, Account, Message, request, commit, abort, Verdict, accept, reject, hold, Weighing, Entry, noted, dropped}
+use Rattle.rule.specs.Weigh.{unweighed, decide, decideBehind}
 use Rattle.rule.specs.Step.{named, markOne, mark, without, settle, asked, askedBy, committing, aborting, step}
 use Rattle.rule.specs.Call.{namedCommitted, refusal, taken}
-use Rattle.rule.specs.History.{waiting, ongoing, wasDropped, Line, line, owners, note, begun}
+use Rattle.rule.specs.History.{fateBy, waiting, ongoing, wasDropped, Line, line, owners, note, begun}
 use Rattle.rule.specs.Demand.{Voted}
 use Rattle.rule.proofs.Lists.{either, or-neither, keep-none, keep-append, some-append}
 use Rattle.rule.proofs.Apart.{length-keep, apart-snoc, apart-mark, apart-without, apart-left, apart-right, apart-other, only-one}
@@ -54,9 +54,9 @@ module _ {G S E B : Type 0} (R : Rule S E B) where
 
   module _ (s : S) (progress : List (Slot G E)) (t : ℕ) (g : G) (e : E) (lines : List (Line G E)) (fresh-there : some-of (named t) progress ≡ false) where
     -- a request behind the held ones: tied,
-    behind : (held : List (Slot G E)) → Tied R s progress held lines → some-of (named t) held ≡ false → length held < R .bench
+    behind : (held : List (Slot G E)) → Tied R s progress held lines → some-of (named t) held ≡ false → length held < R .heldLimit
         → Tied R s progress (held ++ (slot t g e undecided ∷ [])) (lines ++ (line t g e waiting 0 ∷ []))
-    behind held h q room =
+    behind held h q few =
         record {
           past = past-append R t g e (h .past);
           safe = h .safe;
@@ -69,28 +69,28 @@ module _ {G S E B : Type 0} (R : Rule S E B) where
         }
 
     -- the one owner of its own entry,
-    behind-owner : (held : List (Slot G E)) → Tied R s progress held lines → some-of (named t) held ≡ false → length held < R .bench
+    behind-owner : (held : List (Slot G E)) → Tied R s progress held lines → some-of (named t) held ≡ false → length held < R .heldLimit
         → owners t (lines ++ (line t g e waiting 0 ∷ [])) ≡ line t g e waiting 0 ∷ []
-    behind-owner held h q room =
-        past-owners R t (behind held h q room .past)
+    behind-owner held h q few =
+        past-owners R t (behind held h q few .past)
         ∙ rw (keep-none (named t) progress fresh-there, keep-append (named t) held (slot t g e undecided ∷ []), keep-none (named t) held q, eq-eqb t t refl)
 
     -- which is the vote on it behind those held before,
-    behind-vote : (held : List (Slot G E)) (n : ℕ) → Tied R s progress held lines → some-of (named t) held ≡ false → length held < R .bench
-        → decideBehind R held e s progress ≡ record { verdict = hold; weighed = n } → Voted R (lines ++ (line t g e waiting 0 ∷ [])) hold waiting t g e n
-    behind-vote held n h q room w =
-        let past = behind held h q room .past in (
-          turns-at t g e waiting waiting 0 (lines ++ (line t g e waiting 0 ∷ [])) lines [] refl refl (behind-owner held h q room),
-          rw (← past-held R (h .past), ← past-progress R past, past-applied R past) (vote-is R e s progress held hold n w),
+    behind-vote : (held : List (Slot G E)) (w : Weighing) → Tied R s progress held lines → some-of (named t) held ≡ false → length held < R .heldLimit
+        → decideBehind R held e s progress ≡ w → Voted R (lines ++ (line t g e waiting 0 ∷ [])) t g e w
+    behind-vote held w h q few is =
+        let past = behind held h q few .past in (
+          turns-at t g e waiting (fateBy (w .verdict)) 0 (lines ++ (line t g e waiting 0 ∷ [])) lines [] refl refl (behind-owner held h q few),
+          rw (← past-held R (h .past), ← past-progress R past, past-applied R past) (vote-is R e s progress held w is),
         )
 
     -- and tied as before when it is held
-    behind-held : (held : List (Slot G E)) (n : ℕ) → Tied R s progress held lines → some-of (named t) held ≡ false → length held < R .bench
-        → Tied R s progress (held ++ (slot t g e undecided ∷ [])) (note (lines ++ (line t g e waiting 0 ∷ [])) (vote R hold t g e n))
-    behind-held held n h q room =
-        let k = behind held h q room in
+    behind-held : (held : List (Slot G E)) (w : Weighing) → Tied R s progress held lines → some-of (named t) held ≡ false → length held < R .heldLimit → w .verdict ≡ hold
+        → Tied R s progress (held ++ (slot t g e undecided ∷ [])) (note (lines ++ (line t g e waiting 0 ∷ [])) (vote R t g e w))
+    behind-held held w h q few v =
+        let k = behind held h q few in
         record {
-          past = past-noting R t waiting 0 (λ lines′ l. live-hold t l fresh-there) (k .past);
+          past = rw v (past-noting R t waiting 0 (λ lines′ l. live-hold t l fresh-there) (k .past));
           safe = k .safe;
           transactions = k .transactions;
           few = k .few;
@@ -102,33 +102,36 @@ module _ {G S E B : Type 0} (R : Rule S E B) where
 
   -- A request.
   requested : (s : S) (progress held : List (Slot G E)) (t : ℕ) (g : G) (e : E) (lines : List (Line G E))
-      → Rest R (at s progress held) lines → some-of (named t) progress ≡ false → some-of (named t) held ≡ false → length held < R .bench
+      → Rest R (at s progress held) lines → some-of (named t) progress ≡ false → some-of (named t) held ≡ false → length held < R .heldLimit
       → Done R (lines ++ (line t g e waiting 0 ∷ [])) (asked R (at s progress held) t g e)
   unfolding asked
-  requested s progress [] t g e lines h p q room = by (decide R e s progress .verdict) (decide R e s progress .weighed) refl
+  requested s progress [] t g e lines h p q few = by (w .verdict) refl
     where
-      first : Tied R s progress (slot t g e undecided ∷ []) (lines ++ (line t g e waiting 0 ∷ []))
-      first = behind s progress t g e lines p [] (h .tied) q room
+      w : Weighing
+      w = decide R e s progress
 
-      by : (v : Verdict) (n : ℕ) → decide R e s progress ≡ record { verdict = v; weighed = n }
-          → Done R (lines ++ (line t g e waiting 0 ∷ [])) (record { account = askedBy v s progress [] (slot t g e undecided); entries = vote R v t g e n ∷ [] })
-      by accept n v =
-          let k = accepted R s progress [] t g e (lines ++ (line t g e waiting 0 ∷ [])) n first v in
+      first : Tied R s progress (slot t g e undecided ∷ []) (lines ++ (line t g e waiting 0 ∷ []))
+      first = behind s progress t g e lines p [] (h .tied) q few
+
+      by : (v : Verdict) → w .verdict ≡ v
+          → Done R (lines ++ (line t g e waiting 0 ∷ [])) (record { account = askedBy v s progress [] (slot t g e undecided); entries = vote R t g e w ∷ [] })
+      by accept v =
+          let k = accepted R s progress [] t g e (lines ++ (line t g e waiting 0 ∷ [])) w first refl v in
           (record { tied = k .0; oldest = oldest-append R progress t g e (h .oldest); stays = refl }, (k .1, tt))
-      by reject n v =
-          let k = rejected R s progress [] t g e (lines ++ (line t g e waiting 0 ∷ [])) n first v in
+      by reject v =
+          let k = rejected R s progress [] t g e (lines ++ (line t g e waiting 0 ∷ [])) w first refl v in
           (record { tied = k .0; oldest = h .oldest; stays = refl }, (k .1, tt))
-      by hold n v = (
-        record { tied = behind-held s progress t g e lines p [] n (h .tied) q room; oldest = h .oldest; stays = rw (ap (λ (w : Weighing). w .verdict) v) },
-        (behind-vote s progress t g e lines p [] n (h .tied) q room v, tt),
+      by hold v = (
+        record { tied = behind-held s progress t g e lines p [] w (h .tied) q few v; oldest = h .oldest; stays = rw v },
+        (behind-vote s progress t g e lines p [] w (h .tied) q few refl, tt),
       )
-  requested s progress (slot t′ g′ e′ d′ ∷ held) t g e lines h p q room = (
+  requested s progress (slot t′ g′ e′ d′ ∷ held) t g e lines h p q few = (
     record {
-      tied = behind-held s progress t g e lines p (slot t′ g′ e′ d′ ∷ held) 0 (h .tied) q room;
+      tied = behind-held s progress t g e lines p (slot t′ g′ e′ d′ ∷ held) unweighed (h .tied) q few refl;
       oldest = h .oldest;
       stays = h .stays;
     },
-    (behind-vote s progress t g e lines p (slot t′ g′ e′ d′ ∷ held) 0 (h .tied) q room refl, tt),
+    (behind-vote s progress t g e lines p (slot t′ g′ e′ d′ ∷ held) unweighed (h .tied) q few refl, tt),
   )
 
   -- A commit.
@@ -202,8 +205,8 @@ module _ {G S E B : Type 0} (R : Rule S E B) where
   pub step-good : (a : Account G S E) (m : Message G E) (lines : List (Line G E))
       → Rest R a lines → refusal R a m ≡ none → Done R (begun lines m (taken (step R a m .entries))) (step R a m)
   step-good a (request t g e) lines h free =
-      let k = free-request (some-of (named t) (a .progress)) (some-of (named t) (a .held)) (leb (R .bench) (length (a .held))) free in
-      requested (a .state) (a .progress) (a .held) t g e lines h (k .0) (k .1) (leb-false (R .bench) (length (a .held)) (k .2))
+      let k = free-request (some-of (named t) (a .progress)) (some-of (named t) (a .held)) (leb (R .heldLimit) (length (a .held))) free in
+      requested (a .state) (a .progress) (a .held) t g e lines h (k .0) (k .1) (leb-false (R .heldLimit) (length (a .held)) (k .2))
   step-good a (commit t g) lines h free =
       let k = free-commit (some-of (named t) (a .progress)) (some-of (named t) (a .held)) (some-of (namedCommitted t) (a .progress)) free in
       committed-good (a .state) (a .progress) (a .held) t g lines h (k .0) (k .1) (k .2)

@@ -7,25 +7,25 @@ use mathlib.Core.List.{List, [], _∷_, cons≢nil}
 use lib.Dec.{leb}
 use lib.ListN.{length}
 use borrow.Author.Tests.{leb-true, leb-false}
-use Rattle.rule.specs.Rule.{Rule, Slot, Verdict, accept, reject, hold}
+use Rattle.rule.specs.Rule.{Rule, Slot, Verdict, accept, reject, hold, Weighing}
 use Rattle.rule.specs.Outcome.{bit, outcome, outcomes}
-use Rattle.rule.specs.Weigh.{Weighing, unweighed, weigh, decide, decideBehind}
+use Rattle.rule.specs.Weigh.{unweighed, weigh, decide, decideBehind}
 use Rattle.rule.specs.Exact.{chosenState}
 use Rattle.rule.specs.Vote.{Vote, VoteExactly}
 use Rattle.rule.proofs.Exact.{outcome-bits, exact, decided}
 
 -- a weighing by its two parts
-one : (w : Weighing) (v : Verdict) (n : ℕ) → w .verdict ≡ v → w .weighed ≡ n → w ≡ record { verdict = v; weighed = n }
-one w v n p q = ap₂ (λ (x : Verdict) (y : ℕ). record { verdict = x; weighed = y }) p q
+one : (w w′ : Weighing) → w .verdict ≡ w′ .verdict → w .weighed ≡ w′ .weighed → w ≡ w′
+one w w′ p q = ap₂ (λ (x : Verdict) (y : ℕ). record { verdict = x; weighed = y }) p q
 
 module _ {G S E B : Type 0} (R : Rule S E B) (e : E) (s : S) (progress : List (Slot G E)) where
   -- the guard in an outcome, by the outcome's bits
   pub guard-bits : (n : ℕ) → R .guard e (outcome R progress n s) ≡ R .guard e (chosenState R progress (bit n) s)
   guard-bits n = ap (R .guard e) (outcome-bits R progress n s)
 
-  pub vote : (ahead : List (Slot G E)) → Vote R ahead progress s e (decideBehind R ahead e s progress .verdict) (decideBehind R ahead e s progress .weighed)
+  pub vote : (ahead : List (Slot G E)) → Vote R ahead progress s e (decideBehind R ahead e s progress)
   vote [] =
-      let free : length progress < R .room → decide R e s progress .verdict ≡ weigh R e (outcomes R progress s) =
+      let free : length progress < R .progressLimit → decide R e s progress .verdict ≡ weigh R e (outcomes R progress s) =
       λ l. ap (λ (w : Weighing). w .verdict) (decided R e s progress [] .free refl l)
       in
       let k = exact R e progress s in
@@ -58,32 +58,32 @@ module _ {G S E B : Type 0} (R : Rule S E B) (e : E) (s : S) (progress : List (S
         weighed = λ h l. absurd (cons≢nil h);
       }
 
-  -- with its verdict and count named
-  pub vote-is : (ahead : List (Slot G E)) (v : Verdict) (n : ℕ) → decideBehind R ahead e s progress ≡ record { verdict = v; weighed = n } → Vote R ahead progress s e v n
-  vote-is ahead v n q = rw q at (vote ahead)
+  -- with its weighing named
+  pub vote-is : (ahead : List (Slot G E)) (w : Weighing) → decideBehind R ahead e s progress ≡ w → Vote R ahead progress s e w
+  vote-is ahead w q = rw q at (vote ahead)
 
   -- No other vote fits: behind a held request and with no place free there is one, else the outcomes tell verdict and count.
-  is-vote : (ahead : List (Slot G E)) (v : Verdict) (n : ℕ) → Vote R ahead progress s e v n → decideBehind R ahead e s progress ≡ record { verdict = v; weighed = n }
-  is-vote (x ∷ ahead) v n h = let k = h .behind (λ q. cons≢nil q) in one unweighed v n (sym (k .0)) (sym (k .1))
-  is-vote [] v n h = by (leb (R .room) (length progress)) refl
+  is-vote : (ahead : List (Slot G E)) (w′ : Weighing) → Vote R ahead progress s e w′ → decideBehind R ahead e s progress ≡ w′
+  is-vote (x ∷ ahead) w′ h = let k = h .behind (λ q. cons≢nil q) in one unweighed w′ (sym (k .0)) (sym (k .1))
+  is-vote [] w′ h = by (leb (R .progressLimit) (length progress)) refl
     where
       w : Weighing
       w = decide R e s progress
 
-      by : (b : Bool) → leb (R .room) (length progress) ≡ b → w ≡ record { verdict = v; weighed = n }
+      by : (b : Bool) → leb (R .progressLimit) (length progress) ≡ b → w ≡ w′
       by true q =
-          let l = leb-true (R .room) (length progress) q in
-          one w v n (vote [] .full l .0 ∙ sym (h .full l .0)) (vote [] .full l .1 ∙ sym (h .full l .1))
+          let l = leb-true (R .progressLimit) (length progress) q in
+          one w w′ (vote [] .full l .0 ∙ sym (h .full l .0)) (vote [] .full l .1 ∙ sym (h .full l .1))
       by false q =
-          one w v n (same (w .verdict) refl) (vote [] .weighed refl l ∙ sym (h .weighed refl l))
+          one w w′ (same (w .verdict) refl) (vote [] .weighed refl l ∙ sym (h .weighed refl l))
         where
-          l : length progress < R .room
-          l = leb-false (R .room) (length progress) q
+          l : length progress < R .progressLimit
+          l = leb-false (R .progressLimit) (length progress) q
 
-          same : (v′ : Verdict) → w .verdict ≡ v′ → w .verdict ≡ v
+          same : (v : Verdict) → w .verdict ≡ v → w .verdict ≡ w′ .verdict
           same accept k = k ∙ sym (h .accepted refl l .1 (vote [] .accepted refl l .0 k))
           same reject k = k ∙ sym (h .rejected refl l .1 (vote [] .rejected refl l .0 k))
           same hold k = k ∙ sym (h .held refl l .1 (vote [] .held refl l .0 k))
 
-  pub vote-exactly : (ahead : List (Slot G E)) (v : Verdict) (n : ℕ) → VoteExactly R ahead progress s e v n
-  vote-exactly ahead v n = (vote-is ahead v n, is-vote ahead v n)
+  pub vote-exactly : (ahead : List (Slot G E)) (w : Weighing) → VoteExactly R ahead progress s e w
+  vote-exactly ahead w = (vote-is ahead w, is-vote ahead w)

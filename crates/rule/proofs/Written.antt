@@ -9,11 +9,11 @@ use mathlib.Core.Option.{none}
 use native.Mathlib.Omega.{arith}
 use lib.ListN.{length, length-map}
 use Rattle.rule.specs.Lists.{some-of, keep}
-use Rattle.rule.specs.Rule.{Rule, undecided, committed, Slot, slot, Account, Message, request, commit, abort, Verdict, accept, reject, hold, Entry, dropped}
+use Rattle.rule.specs.Rule.{Rule, undecided, committed, Slot, slot, Account, Message, request, commit, abort, Verdict, accept, reject, hold, Weighing, Entry, dropped}
 use Rattle.rule.specs.Weigh.{decide, decideBehind}
 use Rattle.rule.specs.Step.{named, markOne, mark, without, dropping, settledState, applications, unsettled, drainBy, drain, settle, asked, committing, aborting, step}
 use Rattle.rule.specs.Call.{namedCommitted, refusal}
-use Rattle.rule.specs.Order.{apart}
+use Rattle.rule.specs.InOrder.{apart}
 use Rattle.rule.specs.Written.{OnlyApplied, OnlyDecided, Following, Shape}
 use Rattle.rule.proofs.Lists.{either, keep-none}
 use Rattle.rule.proofs.Apart.{length-keep, apart-left, apart-right, apart-other, only-one}
@@ -30,6 +30,13 @@ module _ {A : Type 0} (p : A → Bool) where
       go true h = omega arith
       go false h = omega arith
 
+-- a verdict of yes or no is none of holding
+accept≢hold : accept ≡ hold → ⊥
+accept≢hold q = let z : _≡_ {A = ℕ} 0 1 = cc in omega arith
+
+reject≢hold : reject ≡ hold → ⊥
+reject≢hold q = let z : _≡_ {A = ℕ} 0 1 = cc in omega arith
+
 module _ {G S E B : Type 0} (R : Rule S E B) where
   applications-only : (xs : List (Slot G E)) (s : S) → OnlyApplied (applications R s xs)
   applications-only [] s = tt
@@ -43,15 +50,18 @@ module _ {G S E B : Type 0} (R : Rule S E B) where
 
   drained-votes : (held progress : List (Slot G E)) (s : S) → OnlyDecided (drain R s progress held .entries) × (length (drain R s progress held .entries) ≤ length held)
   drained-votes [] progress s = (tt, omega arith)
-  drained-votes (slot t g e d ∷ held) progress s = by (decide R e s progress .verdict) (decide R e s progress .weighed) (λ progress′. drained-votes held progress′ s)
+  drained-votes (slot t g e d ∷ held) progress s = by (decide R e s progress .verdict) refl (λ progress′. drained-votes held progress′ s)
     where
-      by : (v : Verdict) (n : ℕ)
+      w : Weighing
+      w = decide R e s progress
+
+      by : (v : Verdict) → w .verdict ≡ v
           → ((progress′ : List (Slot G E)) → OnlyDecided (drain R s progress′ held .entries) × (length (drain R s progress′ held .entries) ≤ length held))
-          → OnlyDecided (drainBy v n (slot t g e d) s progress held (λ (progress′ : List (Slot G E)). drain R s progress′ held) .entries)
-          × (length (drainBy v n (slot t g e d) s progress held (λ (progress′ : List (Slot G E)). drain R s progress′ held) .entries) ≤ suc (length held))
-      by accept n rest = let r = rest (progress ++ (slot t g e undecided ∷ [])) in (r .0, omega (arith, r .1))
-      by reject n rest = let r = rest progress in (r .0, omega (arith, r .1))
-      by hold n rest = (tt, omega arith)
+          → OnlyDecided (drainBy v w (slot t g e d) s progress held (λ (progress′ : List (Slot G E)). drain R s progress′ held) .entries)
+          × (length (drainBy v w (slot t g e d) s progress held (λ (progress′ : List (Slot G E)). drain R s progress′ held) .entries) ≤ suc (length held))
+      by accept v rest = let r = rest (progress ++ (slot t g e undecided ∷ [])) in ((λ held. accept≢hold (sym v ∙ held), r .0), omega (arith, r .1))
+      by reject v rest = let r = rest progress in ((λ held. reject≢hold (sym v ∙ held), r .0), omega (arith, r .1))
+      by hold v rest = (tt, omega arith)
 
   settled-following : (progress held : List (Slot G E)) (s : S) → Following (length progress) (length held) (settle R s progress held .entries)
   unfolding settle
@@ -106,7 +116,7 @@ module _ {G S E B : Type 0} (R : Rule S E B) where
   pub step-shape : (a : Account G S E) (m : Message G E) → apart (a .progress ++ a .held) ≡ true → refusal R a m ≡ none → Shape a m (step R a m .entries)
   unfolding asked committing
   step-shape a (request t g e) h free =
-      (decideBehind R (a .held) e (a .state) (a .progress) .verdict, decideBehind R (a .held) e (a .state) (a .progress) .weighed, refl)
+      (decideBehind R (a .held) e (a .state) (a .progress), refl)
   step-shape a (commit t g) h free =
       (settle R (a .state) (mark t (a .progress)) (a .held) .entries, refl, rw (← length-map (a .progress) (markOne t)) (settled-following (mark t (a .progress)) (a .held) (a .state)))
   step-shape a (abort t g) h free =

@@ -21,7 +21,7 @@ module _ {G S E B : Type 0} (R : Rule S E B) where
   abbrev pub refusal : Account G S E → Message G E → Option ℕ
   refusal a (request t g e) =
       cond (some-of (named t) (a .progress) || some-of (named t) (a .held)) (some 6)
-      (cond (leb (R .bench) (length (a .held))) (some 7) none)
+      (cond (leb (R .heldLimit) (length (a .held))) (some 7) none)
   refusal a (commit t g) =
       cond (not (some-of (named t) (a .progress) || some-of (named t) (a .held))) (some 8)
       (cond (some-of (named t) (a .held)) (some 9)

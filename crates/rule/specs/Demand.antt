@@ -7,12 +7,12 @@ use mathlib.Core.Bool.{Bool, true, false}
 use mathlib.Core.List.{List, [], _∷_, _++_}
 use lib.ListN.{length}
 use Rattle.rule.specs.Lists.{keep}
-use Rattle.rule.specs.Rule.{Rule, Decision, undecided, committed, Slot, slot, Account, Message, Verdict, accept, reject, hold, Entry, voted, noted, applied, dropped, newAccount}
+use Rattle.rule.specs.Rule.{Rule, Decision, undecided, committed, Slot, slot, Account, Message, hold, Weighing, Entry, voted, noted, applied, dropped, newAccount}
 use Rattle.rule.specs.Outcome.{undecidedOf, bit}
 use Rattle.rule.specs.Exact.{chosenState}
 use Rattle.rule.specs.Run.{run, GuardsHold}
 use Rattle.rule.specs.Call.{Answer, refused, taken, written, reached}
-use Rattle.rule.specs.History.{Fate, waiting, votedNo, ongoing, wasApplied, wasDropped, Line, line, owners, note, begun, afterCall, Seen, history, linesFrom, allEntries, isEnd}
+use Rattle.rule.specs.History.{Fate, waiting, votedNo, ongoing, wasApplied, wasDropped, Line, line, fateBy, owners, note, begun, afterCall, Seen, history, linesFrom, allEntries, isEnd}
 use Rattle.rule.specs.Vote.{Vote}
 use Rattle.rule.specs.Written.{Writes}
 
@@ -99,7 +99,7 @@ module _ {G E : Type 0} where
 
 -- whether the entry is of an end, and its transaction, its filing, its event and the end are asked for
 abbrev pub endEntry : {G E B : Type 0} → (ℕ → G → E → Fate → Bool) → Entry G E B → Bool
-endEntry asked (voted v t g e n) = false
+endEntry asked (voted t g e w) = false
 endEntry asked (noted t g) = false
 endEntry asked (applied t g e b) = asked t g e wasApplied
 endEntry asked (dropped t g e) = asked t g e wasDropped
@@ -145,20 +145,18 @@ module _ {G S E B : Type 0} (R : Rule S E B) where
     pub stays :
         (behind : List (Slot G E)) (t : ℕ) (g : G) (e : E) (d : Decision)
         → onHold lines ≡ slot t g e d ∷ behind
-        → (n : ℕ) × Vote R [] (inProgress lines) (run R (appliedEvents lines) (R .fresh)) e hold n
+        → (w : Weighing) × (w .verdict ≡ hold) × Vote R [] (inProgress lines) (run R (appliedEvents lines) (R .fresh)) e w
 
   -- A vote has its owner, a line that waits, and is the vote on the lines as they stand: behind those held before it, over what is in progress, from the run of what is applied.
-  abbrev pub Voted : List (Line G E) → Verdict → Fate → ℕ → G → E → ℕ → Type 0
-  Voted lines v f t g e n =
-      (owner : Turns t (line t g e waiting 0) (line t g e f 0) lines (note {B = B} lines (voted v t g e n)))
-      × Vote R (onHold (owner .before)) (inProgress lines) (run R (appliedEvents lines) (R .fresh)) e v n
+  abbrev pub Voted : List (Line G E) → ℕ → G → E → Weighing → Type 0
+  Voted lines t g e w =
+      (owner : Turns t (line t g e waiting 0) (line t g e (fateBy (w .verdict)) 0) lines (note {B = B} lines (voted t g e w)))
+      × Vote R (onHold (owner .before)) (inProgress lines) (run R (appliedEvents lines) (R .fresh)) e w
 
   -- The entry has its owner: when it is written, exactly one line in progress or held has its transaction, with the entry's event and what is filed with it,
   -- and of the fate that the entry's kind asks. That line turns into what the entry says, and no other line changes.
   abbrev pub Owned : List (Line G E) → Entry G E B → Type 0
-  Owned lines (voted accept t g e n) = Voted lines accept (ongoing undecided) t g e n
-  Owned lines (voted reject t g e n) = Voted lines reject votedNo t g e n
-  Owned lines (voted hold t g e n) = Voted lines hold waiting t g e n
+  Owned lines (voted t g e w) = Voted lines t g e w
   Owned lines (noted t g) =
       (g′ : G) × (e : E) × Turns t (line t g′ e (ongoing undecided) 0) (line t g′ e (ongoing committed) 0) lines (note {B = B} lines (noted t g))
   -- an event applied is the oldest in progress, and its entry shows the state after it

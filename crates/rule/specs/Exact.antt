@@ -73,8 +73,8 @@ module _ {G S E B : Type 0} (R : Rule S E B) where
     -- held unweighed behind a held request (4.4),
     pub behind : (held ≡ [] → ⊥) → decideBehind R held e s progress ≡ record { verdict = hold; weighed = 0 }
     -- and with no place free in progress (4.4);
-    pub full : held ≡ [] → R .room ≤ length progress → decideBehind R held e s progress ≡ record { verdict = hold; weighed = 0 }
+    pub full : held ≡ [] → R .progressLimit ≤ length progress → decideBehind R held e s progress ≡ record { verdict = hold; weighed = 0 }
     -- else as it is weighed, with 2^u (4.5);
-    pub free : held ≡ [] → length progress < R .room → decideBehind R held e s progress ≡ record { verdict = weigh R e (outcomes R progress s); weighed = 2 ^ undecidedOf progress }
+    pub free : held ≡ [] → length progress < R .progressLimit → decideBehind R held e s progress ≡ record { verdict = weigh R e (outcomes R progress s); weighed = 2 ^ undecidedOf progress }
     -- with no event in progress it is never held (13.3 e)
-    pub idle : held ≡ [] → 1 ≤ R .room → progress ≡ [] → decideBehind R held e s progress .verdict ≡ hold → ⊥
+    pub idle : held ≡ [] → 1 ≤ R .progressLimit → progress ≡ [] → decideBehind R held e s progress .verdict ≡ hold → ⊥

@@ -17,7 +17,7 @@ module _ {G H E : Type 0} (f : G → H) where
 
 module _ {G H E B : Type 0} (f : G → H) where
   abbrev pub entryThrough : Entry G E B → Entry H E B
-  entryThrough (voted v t g e n) = voted v t (f g) e n
+  entryThrough (voted t g e w) = voted t (f g) e w
   entryThrough (noted t g) = noted t (f g)
   entryThrough (applied t g e b) = applied t (f g) e b
   entryThrough (dropped t g e) = dropped t (f g) e

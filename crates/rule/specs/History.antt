@@ -38,19 +38,19 @@ fateBy hold = waiting
 module _ {G E B : Type 0} where
   -- the transaction of an entry, the fate that it brings, and whether it is the entry of an end
   abbrev pub transactionOf : Entry G E B → ℕ
-  transactionOf (voted v t g e n) = t
+  transactionOf (voted t g e w) = t
   transactionOf (noted t g) = t
   transactionOf (applied t g e b) = t
   transactionOf (dropped t g e) = t
 
   abbrev pub brings : Entry G E B → Fate
-  brings (voted v t g e n) = fateBy v
+  brings (voted t g e w) = fateBy (w .verdict)
   brings (noted t g) = ongoing committed
   brings (applied t g e b) = wasApplied
   brings (dropped t g e) = wasDropped
 
   abbrev pub isEnd : Entry G E B → ℕ
-  isEnd (voted v t g e n) = 0
+  isEnd (voted t g e w) = 0
   isEnd (noted t g) = 0
   isEnd (applied t g e b) = 1
   isEnd (dropped t g e) = 1

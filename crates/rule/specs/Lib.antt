@@ -5,14 +5,14 @@ pub mod Weigh
 pub mod Step
 pub mod Call
 pub mod Run
-pub mod Order
+pub mod InOrder
 pub mod History
 pub mod Demand
 pub mod Readings
 pub mod Follows
 pub mod Exact
 pub mod Vote
-pub mod InOrder
+pub mod InOrderExactly
 pub mod Written
 pub mod Refusals
 pub mod Says

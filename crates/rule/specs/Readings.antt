@@ -5,7 +5,7 @@ use mathlib.Core.Path.{_≡_}
 use mathlib.Core.Logic.{_↔_}
 use mathlib.Core.Bool.{Bool, true, false}
 use mathlib.Core.List.{List, [], _∷_, _++_, map}
-use Rattle.rule.specs.Rule.{undecided, committed, slot, Verdict, hold, Entry, voted, noted, applied, dropped}
+use Rattle.rule.specs.Rule.{undecided, committed, slot, hold, Weighing, Entry, voted, noted, applied, dropped}
 use Rattle.rule.specs.Outcome.{undecidedOf}
 use Rattle.rule.specs.History.{Fate, waiting, votedNo, ongoing, wasApplied, wasDropped, Line, line, owners}
 use Rattle.rule.specs.Demand.{endsOf, inProgress, onHold, serial, appliedEvents, course, endedLine, endEntry}
@@ -50,8 +50,8 @@ module _ {G E : Type 0} where
 
 module _ {G E B : Type 0} where
   -- the entries of ends
-  pub record OneEntry (v : Verdict) (t : ℕ) (g : G) (e : E) (n : ℕ) (b : B) : Type 0 where
-    pub ends : map (endEntry anyEnd) (voted v t g e n ∷ noted t g ∷ applied t g e b ∷ dropped t g e ∷ []) ≡ false ∷ false ∷ true ∷ true ∷ []
+  pub record OneEntry (t : ℕ) (g : G) (e : E) (w : Weighing) (b : B) : Type 0 where
+    pub ends : map (endEntry anyEnd) (voted t g e w ∷ noted t g ∷ applied t g e b ∷ dropped t g e ∷ []) ≡ false ∷ false ∷ true ∷ true ∷ []
 
   -- the entries behind a call's own, wherever they stand among them
   pub record OnlyThese (xs : List (Entry G E B)) : Type 0 where
@@ -61,4 +61,4 @@ module _ {G E B : Type 0} where
     pub ofDecided :
         OnlyDecided xs
         ↔ ((before behind : List (Entry G E B)) (x : Entry G E B) → xs ≡ before ++ (x ∷ behind)
-        → (v : Verdict) × (t : ℕ) × (g : G) × (e : E) × (n : ℕ) × (x ≡ voted v t g e n) × (v ≡ hold → ⊥))
+        → (t : ℕ) × (g : G) × (e : E) × (w : Weighing) × (x ≡ voted t g e w) × (w .verdict ≡ hold → ⊥))

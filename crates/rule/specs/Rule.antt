@@ -13,8 +13,8 @@ pub record Rule (S E B : Type 0) : Type 0 where
   pub fresh : S
   pub shown : S → B
   pub fits : S → Bool
-  pub room : ℕ
-  pub bench : ℕ
+  pub progressLimit : ℕ
+  pub heldLimit : ℕ
 
 -- whether the decision on an event in progress has come (2.4)
 pub data Decision : Type 0 where
@@ -40,9 +40,14 @@ pub data Message (G E : Type 0) : Type 0 where
 pub data Verdict : Type 0 where
   accept reject hold : Verdict
 
--- an entry: of a vote, with the number of outcomes weighed; of a commit; of an event applied, with what is shown of the state after it; of one dropped
+-- a decision, and the number of outcomes that were weighed for it
+pub record Weighing : Type 0 where
+  pub verdict : Verdict
+  pub weighed : ℕ
+
+-- an entry: of a vote, with its weighing; of a commit; of an event applied, with what is shown of the state after it; of one dropped
 pub data Entry (G E B : Type 0) : Type 0 where
-  voted : Verdict → ℕ → G → E → ℕ → Entry G E B
+  voted : ℕ → G → E → Weighing → Entry G E B
   noted : ℕ → G → Entry G E B
   applied : ℕ → G → E → B → Entry G E B
   dropped : ℕ → G → E → Entry G E B

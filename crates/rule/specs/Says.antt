@@ -25,9 +25,9 @@ module _ {G S E B : Type 0} (R : Rule S E B) (P : ℕ → G → E → Type 0) (Q
     pub progress : SlotsSay P (a .progress)
     pub held : SlotsSay P (a .held)
 
-  -- so of an entry, whose count of outcomes is within 2 to the power of the room
+  -- so of an entry, whose count of outcomes is within 2 to the power of the limit on events in progress
   abbrev pub EntrySays : Entry G E B → Type 0
-  EntrySays (voted v t g e n) = P t g e × (n ≤ 2 ^ R .room)
+  EntrySays (voted t g e w) = P t g e × (w .weighed ≤ 2 ^ R .progressLimit)
   EntrySays (noted t g) = Q t g
   EntrySays (applied t g e b) = P t g e × W b
   EntrySays (dropped t g e) = P t g e

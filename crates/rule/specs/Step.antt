@@ -5,8 +5,8 @@ use mathlib.Core.Bool.{Bool, cond, not}
 use mathlib.Core.List.{List, [], _∷_, _++_, map}
 use lib.Dec.{eqb}
 use Rattle.rule.specs.Lists.{keep}
-use Rattle.rule.specs.Rule.{Rule, undecided, committed, Slot, slot, Account, Message, request, commit, abort, accept, reject, hold, Verdict, Entry, voted, noted, applied, dropped}
-use Rattle.rule.specs.Weigh.{Weighing, decide, decideBehind}
+use Rattle.rule.specs.Rule.{Rule, undecided, committed, Slot, slot, Account, Message, request, commit, abort, accept, reject, hold, Verdict, Weighing, Entry, voted, noted, applied, dropped}
+use Rattle.rule.specs.Weigh.{decide, decideBehind}
 
 -- the account that follows, and the entries written on the way
 pub record Step (G S E B : Type 0) : Type 0 where
@@ -64,10 +64,10 @@ module _ {G S E B : Type 0} where
 
   -- the oldest held request by its verdict: accepted or rejected it has its entry, and `rest` goes on with what is then in progress;
   -- held again it stays, with no entry, and nothing behind it is looked at (5.4)
-  abbrev pub drainBy : Verdict → ℕ → Slot G E → S → List (Slot G E) → List (Slot G E) → (List (Slot G E) → Step G S E B) → Step G S E B
-  drainBy accept n (slot t g e d) s progress held rest = after (voted accept t g e n ∷ []) (rest (progress ++ (slot t g e undecided ∷ [])))
-  drainBy reject n (slot t g e d) s progress held rest = after (voted reject t g e n ∷ []) (rest progress)
-  drainBy hold n x s progress held rest = still s progress (x ∷ held)
+  abbrev pub drainBy : Verdict → Weighing → Slot G E → S → List (Slot G E) → List (Slot G E) → (List (Slot G E) → Step G S E B) → Step G S E B
+  drainBy accept w (slot t g e d) s progress held rest = after (voted t g e w ∷ []) (rest (progress ++ (slot t g e undecided ∷ [])))
+  drainBy reject w (slot t g e d) s progress held rest = after (voted t g e w ∷ []) (rest progress)
+  drainBy hold w x s progress held rest = still s progress (x ∷ held)
 
 -- a request by its verdict: it is in progress, or not at all, or held behind the others (4.6)
 abbrev pub askedBy : {G S E : Type 0} → Verdict → S → List (Slot G E) → List (Slot G E) → Slot G E → Account G S E
@@ -80,20 +80,20 @@ module _ {G S E B : Type 0} (R : Rule S E B) where
   abbrev pub drain : S → List (Slot G E) → List (Slot G E) → Step G S E B
   drain s progress [] = still s progress []
   drain s progress (slot t g e d ∷ held) =
-      drainBy (decide R e s progress .verdict) (decide R e s progress .weighed) (slot t g e d) s progress held
+      drainBy (decide R e s progress .verdict) (decide R e s progress) (slot t g e d) s progress held
       (λ (progress′ : List (Slot G E)). drain s progress′ held)
 
   -- what follows every commit and abort: the committed oldest are applied, then the held requests are looked at
   unfoldable pub settle : S → List (Slot G E) → List (Slot G E) → Step G S E B
   settle s progress held = after (applications R s progress) (drain (settledState R s progress) (unsettled progress) held)
 
-  -- a request: its own entry carries its verdict and the number of outcomes weighed
+  -- a request: its own entry carries its weighing
   unfoldable pub asked : Account G S E → ℕ → G → E → Step G S E B
   asked a t g e =
       let w : Weighing = decideBehind R (a .held) e (a .state) (a .progress) in
       record {
         account = askedBy (w .verdict) (a .state) (a .progress) (a .held) (slot t g e undecided);
-        entries = voted (w .verdict) t g e (w .weighed) ∷ [];
+        entries = voted t g e w ∷ [];
       }
 
   -- a commit: noted, the event is marked, and the rest follows

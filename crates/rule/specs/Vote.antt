@@ -6,34 +6,34 @@ use mathlib.Core.Logic.{_↔_}
 use mathlib.Core.Bool.{true, false}
 use mathlib.Core.List.{List, []}
 use lib.ListN.{length}
-use Rattle.rule.specs.Rule.{Rule, Slot, Verdict, accept, reject, hold}
+use Rattle.rule.specs.Rule.{Rule, Slot, accept, reject, hold, Weighing}
 use Rattle.rule.specs.Outcome.{undecidedOf, bit}
 use Rattle.rule.specs.Weigh.{decideBehind}
 use Rattle.rule.specs.Exact.{chosenState}
 
 module _ {G S E B : Type 0} (R : Rule S E B) where
   -- the vote on an event behind these held requests, over these events in progress, from this applied state
-  pub record Vote (ahead progress : List (Slot G E)) (s : S) (e : E) (v : Verdict) (n : ℕ) : Type 0 where
+  pub record Vote (ahead progress : List (Slot G E)) (s : S) (e : E) (w : Weighing) : Type 0 where
     -- behind another held request, or with no place free, it is held with 0;
-    pub behind : (ahead ≡ [] → ⊥) → (v ≡ hold) × (n ≡ 0)
-    pub full : R .room ≤ length progress → (v ≡ hold) × (n ≡ 0)
+    pub behind : (ahead ≡ [] → ⊥) → (w .verdict ≡ hold) × (w .weighed ≡ 0)
+    pub full : R .progressLimit ≤ length progress → (w .verdict ≡ hold) × (w .weighed ≡ 0)
     -- else it is accepted exactly if its guard is true in all outcomes,
     pub accepted :
-        ahead ≡ [] → length progress < R .room
-        → (v ≡ accept) ↔ ((k : ℕ) → k < 2 ^ undecidedOf progress → R .guard e (chosenState R progress (bit k) s) ≡ true)
+        ahead ≡ [] → length progress < R .progressLimit
+        → (w .verdict ≡ accept) ↔ ((k : ℕ) → k < 2 ^ undecidedOf progress → R .guard e (chosenState R progress (bit k) s) ≡ true)
     -- rejected exactly if it is false in all,
     pub rejected :
-        ahead ≡ [] → length progress < R .room
-        → (v ≡ reject) ↔ ((k : ℕ) → k < 2 ^ undecidedOf progress → R .guard e (chosenState R progress (bit k) s) ≡ false)
+        ahead ≡ [] → length progress < R .progressLimit
+        → (w .verdict ≡ reject) ↔ ((k : ℕ) → k < 2 ^ undecidedOf progress → R .guard e (chosenState R progress (bit k) s) ≡ false)
     -- held exactly if it is true in one and false in another,
     pub held :
-        ahead ≡ [] → length progress < R .room
-        → (v ≡ hold)
+        ahead ≡ [] → length progress < R .progressLimit
+        → (w .verdict ≡ hold)
         ↔ (((k : ℕ) × (k < 2 ^ undecidedOf progress) × (R .guard e (chosenState R progress (bit k) s) ≡ true))
         × ((k : ℕ) × (k < 2 ^ undecidedOf progress) × (R .guard e (chosenState R progress (bit k) s) ≡ false)))
     -- and counts the outcomes, 2 to the power u
-    pub weighed : ahead ≡ [] → length progress < R .room → n ≡ 2 ^ undecidedOf progress
+    pub weighed : ahead ≡ [] → length progress < R .progressLimit → w .weighed ≡ 2 ^ undecidedOf progress
 
   -- and a request is decided so exactly if that is the vote on it
-  abbrev pub VoteExactly : (ahead progress : List (Slot G E)) → S → E → Verdict → ℕ → Type 0
-  VoteExactly ahead progress s e v n = (decideBehind R ahead e s progress ≡ record { verdict = v; weighed = n }) ↔ Vote ahead progress s e v n
+  abbrev pub VoteExactly : (ahead progress : List (Slot G E)) → S → E → Weighing → Type 0
+  VoteExactly ahead progress s e w = (decideBehind R ahead e s progress ≡ w) ↔ Vote ahead progress s e w

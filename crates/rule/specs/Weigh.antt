@@ -6,13 +6,8 @@ use mathlib.Core.List.{List, [], _∷_}
 use lib.Dec.{leb}
 use lib.ListN.{length}
 use Rattle.rule.specs.Lists.{every, some-of}
-use Rattle.rule.specs.Rule.{Rule, Slot, Verdict, accept, reject, hold}
+use Rattle.rule.specs.Rule.{Rule, Slot, Verdict, accept, reject, hold, Weighing}
 use Rattle.rule.specs.Outcome.{outcomes}
-
--- a decision, and the number of outcomes that were weighed for it
-pub record Weighing : Type 0 where
-  pub verdict : Verdict
-  pub weighed : ℕ
 
 -- a request held unweighed has the count 0 (4.4)
 abbrev pub unweighed : Weighing
@@ -27,7 +22,7 @@ module _ {G S E B : Type 0} (R : Rule S E B) where
   -- a request with nothing held before it: unweighed if no place is free in progress (4.4), else weighed, and its count is the length of the list of outcomes (4.5)
   unfoldable pub decide : E → S → List (Slot G E) → Weighing
   decide e s progress =
-      cond (leb (R .room) (length progress)) unweighed
+      cond (leb (R .progressLimit) (length progress)) unweighed
       (record { verdict = weigh R e (outcomes R progress s); weighed = length (outcomes R progress s) })
 
   -- behind a held request no request is weighed (4.4)

@@ -4,13 +4,13 @@ use Prim.Native.Nat.{ℕ, _+_, _≤_, _<_}
 use mathlib.Core.Path.{_≡_}
 use mathlib.Core.List.{List, [], _∷_, _++_}
 use lib.ListN.{length}
-use Rattle.rule.specs.Rule.{Account, Message, request, commit, abort, Verdict, accept, reject, hold, Entry, voted, noted, applied, dropped}
+use Rattle.rule.specs.Rule.{Account, Message, request, commit, abort, hold, Weighing, Entry, voted, noted, applied, dropped}
 
 module _ {G E B : Type 0} where
   -- nothing but entries of events applied
   abbrev pub OnlyApplied : List (Entry G E B) → Type 0
   OnlyApplied [] = Unit {0}
-  OnlyApplied (voted v t g e n ∷ xs) = ⊥
+  OnlyApplied (voted t g e w ∷ xs) = ⊥
   OnlyApplied (noted t g ∷ xs) = ⊥
   OnlyApplied (applied t g e b ∷ xs) = OnlyApplied xs
   OnlyApplied (dropped t g e ∷ xs) = ⊥
@@ -18,9 +18,7 @@ module _ {G E B : Type 0} where
   -- nothing but votes of yes or no: a request that stays held gets no entry (5.4)
   abbrev pub OnlyDecided : List (Entry G E B) → Type 0
   OnlyDecided [] = Unit {0}
-  OnlyDecided (voted accept t g e n ∷ xs) = OnlyDecided xs
-  OnlyDecided (voted reject t g e n ∷ xs) = OnlyDecided xs
-  OnlyDecided (voted hold t g e n ∷ xs) = ⊥
+  OnlyDecided (voted t g e w ∷ xs) = (w .verdict ≡ hold → ⊥) × OnlyDecided xs
   OnlyDecided (noted t g ∷ xs) = ⊥
   OnlyDecided (applied t g e b ∷ xs) = ⊥
   OnlyDecided (dropped t g e ∷ xs) = ⊥
@@ -39,7 +37,7 @@ module _ {G E B : Type 0} (progressing holding : ℕ) where
   -- the entries of a message that is taken where so many events are in progress and so many requests held
   abbrev pub Writes : Message G E → List (Entry G E B) → Type 0
   -- a request has its own vote and nothing else
-  Writes (request t g e) xs = (v : Verdict) × (n : ℕ) × (xs ≡ voted v t g e n ∷ [])
+  Writes (request t g e) xs = (w : Weighing) × (xs ≡ voted t g e w ∷ [])
   -- a commit is noted, with its own filing; every event in progress may be applied and every held request decided
   Writes (commit t g) xs = (rest : List (Entry G E B)) × (xs ≡ noted t g ∷ rest) × Following progressing holding rest
   -- an abort drops one, with the filing of its request; of those in progress and held one is gone

@@ -8,14 +8,14 @@ use borrow.Author.Needs.{needs}
 use borrow.Author.Tests.{not-true, not-false}
 use Rattle.rule.specs.Rule.{commit, noted}
 use Rattle.account.specs.declared.places.Row.{Row}
-use Rattle.account.specs.Order.{orderOf}
+use Rattle.account.specs.InOrder.{inOrderOf}
 use Rattle.account.specs.Steps.{RuleEntry}
 use Rattle.account.proofs.Refusals.{out-of-order, commit-8, commit-9, commit-10, commit-taken, committed-guarded, committed-rows}
 use Rattle.account.proofs.Account.commit.Statement.{statement}
 use Rattle.account.proofs.Account.commit.Tie as tie
 
 -- past the first test the account is in order
-in-order : (c : tie.Else1) → orderOf (c .before .before .args .self) ≡ true
+in-order : (c : tie.Else1) → inOrderOf (c .before .before .args .self) ≡ true
 in-order c = sym (c .before .in-order .ensures) ∙ not-false (c .before .in-order .result) (c .if1 .left)
 
 in-order-requires : tie.Need-in-order-requires

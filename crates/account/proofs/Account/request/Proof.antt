@@ -7,14 +7,14 @@ use borrow.Author.Needs.{needs}
 use borrow.Author.Tests.{not-true, not-false}
 use Rattle.rule.specs.Rule.{request}
 use Rattle.account.specs.Places.{listsOf}
-use Rattle.account.specs.Order.{orderOf}
+use Rattle.account.specs.InOrder.{inOrderOf}
 use Rattle.account.proofs.Refusals.{out-of-order, request-6, request-7, request-taken}
 use Rattle.account.proofs.Guarded.{order-guarded}
 use Rattle.account.proofs.Account.request.Statement.{statement}
 use Rattle.account.proofs.Account.request.Tie as tie
 
 -- past the first test the account is in order
-in-order : (c : tie.Else1) → orderOf (c .before .before .args .self) ≡ true
+in-order : (c : tie.Else1) → inOrderOf (c .before .before .args .self) ≡ true
 in-order c = sym (c .before .in-order .ensures) ∙ not-false (c .before .in-order .result) (c .if1 .left)
 
 in-order-requires : tie.Need-in-order-requires

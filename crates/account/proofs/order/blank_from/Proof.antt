@@ -6,7 +6,7 @@ use native.Mathlib.Omega.{arith}
 use lib.ListN.{drop, drop-of-length-le}
 use borrow.Author.Needs.{needs}
 use Rattle.rule.specs.Lists.{every}
-use Rattle.account.specs.Order.{isBlank}
+use Rattle.account.specs.InOrder.{isBlank}
 use Rattle.account.proofs.Slices.{drop-next}
 use Rattle.account.proofs.Clauses.{every-next, every-stop}
 use Rattle.account.proofs.order.blank_from.Statement.{statement}

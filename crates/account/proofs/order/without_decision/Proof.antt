@@ -6,7 +6,7 @@ use native.Mathlib.Omega.{arith}
 use lib.ListN.{getD}
 use borrow.Author.Needs.{needs}
 use Rattle.rule.specs.Lists.{every}
-use Rattle.rule.specs.Order as rule
+use Rattle.rule.specs.InOrder as rule
 use Rattle.account.specs.Places.{used, blank}
 use Rattle.account.proofs.Slices.{usedFrom, used-end, used-next}
 use Rattle.account.proofs.Clauses.{every-next, every-stop, without-decision}

@@ -8,7 +8,7 @@ use native.Mathlib.Omega.{arith}
 use lib.ListN.{length, getD}
 use borrow.Author.Needs.{needs}
 use Rattle.rule.specs.Rule.{voted}
-use Rattle.rule.specs.Order.{guarded}
+use Rattle.rule.specs.InOrder.{guarded}
 use Rattle.account.specs.Panel.{panel}
 use Rattle.account.specs.Places.{RuleSlot, blank}
 use Rattle.account.specs.Weighing.{verdictOf}

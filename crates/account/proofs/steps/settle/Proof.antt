@@ -10,7 +10,7 @@ use borrow.Author.Needs.{needs}
 use borrow.Author.Tests.{not-true, not-false}
 use Rattle.rule.specs.Rule.{applied}
 use Rattle.rule.specs.Step.{after}
-use Rattle.rule.specs.Order.{guarded, oldestUndecided}
+use Rattle.rule.specs.InOrder.{guarded, oldestUndecided}
 use Rattle.account.specs.Panel.{panel}
 use Rattle.account.specs.Places.{slotOf, blank}
 use Rattle.account.specs.Steps.{RuleEntry, entriesOf}

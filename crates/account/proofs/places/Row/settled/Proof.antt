@@ -5,7 +5,7 @@ use Prim.Native.Nat.{_+_}
 use mathlib.Core.Path.{_≡_, sym, ap, _∙_}
 use native.Mathlib.Omega.{arith}
 use lib.ListN.{length, getD}
-use Rattle.rule.specs.Order.{oldestUndecided}
+use Rattle.rule.specs.InOrder.{oldestUndecided}
 use Rattle.account.specs.Places.{blank}
 use Rattle.account.proofs.Padded.{as-many}
 use Rattle.account.proofs.Slices.{usedFrom, used-end, used-next}

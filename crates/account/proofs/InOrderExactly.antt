@@ -11,18 +11,18 @@ use lib.ListN.{length, take, length-map, length-take}
 use borrow.Author.Tests.{le-leb}
 use Rattle.rule.specs.Lists.{every}
 use Rattle.rule.specs.Rule as rule
-use Rattle.rule.specs.Order as rule-order
+use Rattle.rule.specs.InOrder as rule-order
 use Rattle.rule.proofs.Lists.{and-left, and-right, map-append, every-parts, parts-every}
-use Rattle.rule.proofs.InOrder.{in-order-exactly}
+use Rattle.rule.proofs.InOrderExactly.{in-order-exactly}
 use Rattle.events.specs.declared.Event.{Event}
 use Rattle.account.specs.declared.Decision.{Decision}
 use Rattle.account.specs.declared.Decision.the-variants.{Undecided, Committed}
 use Rattle.account.specs.declared.Slot.{Slot}
 use Rattle.account.specs.declared.Account.{Account}
-use Rattle.account.specs.Panel.{panel, room, bench}
+use Rattle.account.specs.Panel.{panel, progressLimit, heldLimit}
 use Rattle.account.specs.Places.{RuleSlot, decisionOf, decisionIn, slotOf, placeOf, listsOf}
-use Rattle.account.specs.Order.{isBlank, orderOf}
-use Rattle.account.specs.InOrder.{events, requests, unused, unusedHeld, after, many, GuardSomewhere, InOrder, InOrderExactly, BrokenClauses}
+use Rattle.account.specs.InOrder.{isBlank, inOrderOf}
+use Rattle.account.specs.InOrderExactly.{events, requests, unused, unusedHeld, after, many, GuardSomewhere, InOrder, InOrderExactly, BrokenClauses}
 use Rattle.account.proofs.Padded.{decision-back, slots-places, places-slots}
 use Rattle.account.proofs.Ordered.{blank-place, order-rule}
 use Rattle.account.proofs.Clauses.{order-counts}
@@ -55,14 +55,14 @@ module _ (a : Account) where
   few : (n : ℕ) (places : List Slot) → n ≤ 8 → length (map slotOf (take n places)) ≤ 8
   few n places h = omega (arith, length-map (take n places) slotOf, length-take n places)
 
-  order-in : orderOf a ≡ true → InOrder a
-  unfolding orderOf listsOf
+  order-in : inOrderOf a ≡ true → InOrder a
+  unfolding inOrderOf listsOf
   order-in h =
-      let c1 = leb (a .progressing) room in
-      let c2 = leb (a .holding) bench in
+      let c1 = leb (a .progressing) progressLimit in
+      let c2 = leb (a .holding) heldLimit in
       let c3 = every isBlank (unused a) in
       let c4 = every isBlank (unusedHeld a) in
-      let h4 = and-left (c1 && c2 && c3 && c4) (rule-order.order panel (listsOf a)) h in
+      let h4 = and-left (c1 && c2 && c3 && c4) (rule-order.isInOrder panel (listsOf a)) h in
       let h3 = and-left (c1 && c2 && c3) c4 h4 in
       let k = in-order-exactly panel (listsOf a) .0 (order-rule a h) in
       let fits = table-holds (a .state) 0 .rows .fields .fits .0 (k .state) in
@@ -86,12 +86,12 @@ module _ (a : Account) where
             ⊎-elim (λ l. inl (rw (length-map (events a) slotOf) at l)) (λ r. inr r) (k .stays (map slotOf behind) _ _ _ _ (ap (map slotOf) q));
       }
 
-  in-order : InOrder a → orderOf a ≡ true
-  unfolding orderOf listsOf
+  in-order : InOrder a → inOrderOf a ≡ true
+  unfolding inOrderOf listsOf
   in-order h =
       rw (
-        le-leb (a .progressing) room (h .progressing),
-        le-leb (a .holding) bench (h .holding),
+        le-leb (a .progressing) progressLimit (h .progressing),
+        le-leb (a .holding) heldLimit (h .holding),
         parts-every isBlank (unused a) (λ before x behind q. ap isBlank (h .blanks before behind x q)),
         parts-every isBlank (unusedHeld a) (λ before x behind q. ap isBlank (h .blanksHeld before behind x q)),
       )
@@ -129,18 +129,18 @@ pub broken-clauses : BrokenClauses
 broken-clauses a =
     let k = order-in a in
     record {
-      progressing = λ l. out (orderOf a) (λ h. let z = k h .progressing in omega arith);
-      holding = λ l. out (orderOf a) (λ h. let z = k h .holding in omega arith);
-      balance = λ l. out (orderOf a) (λ h. let z = k h .balance in omega arith);
-      same = λ before between behind x y q e. out (orderOf a) (λ h. k h .differ before between behind x y q e);
+      progressing = λ l. out (inOrderOf a) (λ h. let z = k h .progressing in omega arith);
+      holding = λ l. out (inOrderOf a) (λ h. let z = k h .holding in omega arith);
+      balance = λ l. out (inOrderOf a) (λ h. let z = k h .balance in omega arith);
+      same = λ before between behind x y q e. out (inOrderOf a) (λ h. k h .differ before between behind x y q e);
       left =
           λ before behind x q e.
-          out (orderOf a) (λ h. e (⊎-elim (λ p. k h .blanks before behind x p) (λ p. k h .blanksHeld before behind x p) q));
-      balanceLeft = λ e l. out (orderOf a) (λ h. let z = k h .empty e in omega arith);
-      unguarded = λ before behind x q f. out (orderOf a) (λ h. true≢false (sym (k h .guards before behind x q (f .0) (f .1)) ∙ f .2));
-      oldest = λ behind x q e. out (orderOf a) (λ h. two-decisions (sym (k h .oldest behind x q) ∙ e));
-      decidedHeld = λ before behind x q e. out (orderOf a) (λ h. two-decisions (sym (k h .undecidedHeld before behind x q) ∙ e));
-      decides = λ b behind x q l f. out (orderOf a) (λ h. ⊎-elim (λ full. omega arith) (λ r. split b (events a) (x .event) f r) (k h .stays behind x q));
+          out (inOrderOf a) (λ h. e (⊎-elim (λ p. k h .blanks before behind x p) (λ p. k h .blanksHeld before behind x p) q));
+      balanceLeft = λ e l. out (inOrderOf a) (λ h. let z = k h .empty e in omega arith);
+      unguarded = λ before behind x q f. out (inOrderOf a) (λ h. true≢false (sym (k h .guards before behind x q (f .0) (f .1)) ∙ f .2));
+      oldest = λ behind x q e. out (inOrderOf a) (λ h. two-decisions (sym (k h .oldest behind x q) ∙ e));
+      decidedHeld = λ before behind x q e. out (inOrderOf a) (λ h. two-decisions (sym (k h .undecidedHeld before behind x q) ∙ e));
+      decides = λ b behind x q l f. out (inOrderOf a) (λ h. ⊎-elim (λ full. omega arith) (λ r. split b (events a) (x .event) f r) (k h .stays behind x q));
     }
   where
     two-decisions : Undecided ≡ Committed → ⊥

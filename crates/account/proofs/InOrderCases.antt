@@ -3,12 +3,12 @@
 use mathlib.Core.Path.{refl}
 use Rattle.rule.specs.Outcome.{outcomes}
 use Rattle.rule.specs.Weigh.{weigh, decide}
-use Rattle.rule.specs.Order.{order}
+use Rattle.rule.specs.InOrder.{isInOrder}
 use Rattle.events.specs.Events.{effectOf}
 use Rattle.account.specs.Places.{listsOf}
-use Rattle.account.specs.Order.{orderOf}
-use Rattle.account.specs.OrderCases.{table, OrderCasesHold}
+use Rattle.account.specs.InOrder.{inOrderOf}
+use Rattle.account.specs.InOrderCases.{table, InOrderCasesHold}
 
-pub order-cases : OrderCasesHold
-unfolding outcomes weigh decide order effectOf listsOf orderOf table
+pub order-cases : InOrderCasesHold
+unfolding outcomes weigh decide isInOrder effectOf listsOf inOrderOf table
 order-cases = refl

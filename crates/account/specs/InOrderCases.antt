@@ -13,7 +13,7 @@ use Rattle.account.specs.declared.Decision.{Decision}
 use Rattle.account.specs.declared.Decision.the-variants.{Undecided, Committed}
 use Rattle.account.specs.declared.Slot.{Slot}
 use Rattle.account.specs.declared.Account.{Account}
-use Rattle.account.specs.Order.{orderOf}
+use Rattle.account.specs.InOrder.{inOrderOf}
 
 abbrev pub slot : (transaction second : ℕ) → Event → Decision → Slot
 slot t g e d = record { transaction = t; second = g; event = e; decision = d }
@@ -122,5 +122,5 @@ table =
     ∷ []
 
 -- the test answers as is said, row by row
-abbrev pub OrderCasesHold : Type 0
-OrderCasesHold = map (λ (r : Row). orderOf (r .account)) table ≡ map (λ (r : Row). r .ordered) table
+abbrev pub InOrderCasesHold : Type 0
+InOrderCasesHold = map (λ (r : Row). inOrderOf (r .account)) table ≡ map (λ (r : Row). r .ordered) table
