@@ -2,21 +2,22 @@
 -- Assumes nothing.
 use Prim.Native.Nat.{ℕ, _<_}
 use mathlib.Core.Path.{_≡_}
-use mathlib.Core.Bool.{true}
+use mathlib.Core.Bool.{Bool, true, cond}
 use mathlib.Core.List.{List, []}
 use lib.ListN.{length}
 use Rattle.rule.specs.Outcome.{outcomes}
-use Rattle.rule.specs.Weigh.{decideBehind}
-use Rattle.rule.specs.InOrder.{guarded}
+use Rattle.rule.specs.Weigh.{decide, decideBehind}
+use Rattle.rule.specs.InOrder.{guarded, staysHeld}
 use Rattle.events.specs.declared.Event.{Event}
 use Rattle.events.specs.declared.State.{State}
 use Rattle.events.specs.Range.{rangeOf}
-use Rattle.account.specs.declared.weighing.Outcomes.{Outcomes}
-use Rattle.account.specs.declared.weighing.Weighing.{Weighing}
-use Rattle.account.specs.Panel.{panel, progressLimit}
-use Rattle.account.specs.Places.{RuleSlot}
-use Rattle.account.specs.Weighing.{weighingOf}
-use Rattle.account.specs.Clauses.{isAccept}
+use Rattle.filing.specs.declared.Verdict.{Verdict}
+use Rattle.filing.specs.declared.Verdict.the-variants.{Accepted, Rejected, Held}
+use Rattle.filing.specs.declared.Weighing.{Weighing}
+use Rattle.filing.specs.Slots.{RuleSlot}
+use Rattle.filing.specs.Entries.{isAccepted, weighingOf}
+use Rattle.account.specs.declared.outcomes.Outcomes.{Outcomes}
+use Rattle.account.specs.First.{panel, progressLimit}
 
 -- how many outcomes there are, whether each event finds its guard true however the older ones end, and then the range of all outcomes
 pub record Knows (s : State) (xs : List RuleSlot) (r : Outcomes) : Type 0 where
@@ -24,7 +25,16 @@ pub record Knows (s : State) (xs : List RuleSlot) (r : Outcomes) : Type 0 where
   pub guards : r .guarded ≡ guarded panel s [] xs
   pub range : r .guarded ≡ true → r .range ≡ rangeOf (outcomes panel xs s)
 
--- a decision on a request behind those held, with so many events in progress: to accept only where a place is free; and the rule's, where each event in progress finds its guard
-pub record Decides (requests : List RuleSlot) (e : Event) (s : State) (xs : List RuleSlot) (progressing : ℕ) (r : Weighing) : Type 0 where
-  pub free : isAccept (r .verdict) ≡ true → progressing < progressLimit
-  pub decided : guarded panel s [] xs ≡ true → weighingOf r ≡ decideBehind panel requests e s xs
+-- a decision on a request behind those held, by what is known of the outcomes of so many events in progress: to accept only where a place is free;
+-- and the rule's, where each event in progress finds its guard
+pub record Decides (requests : List RuleSlot) (e : Event) (progressing : ℕ) (o : Outcomes) (r : Weighing) : Type 0 where
+  pub free : isAccepted (r .verdict) ≡ true → progressing < progressLimit
+  pub decided : (s : State) (xs : List RuleSlot) → Knows s xs o → o .guarded ≡ true → length xs ≡ progressing → weighingOf r ≡ decideBehind panel requests e s xs
+
+-- whether a request with nothing held before it is held
+abbrev pub StaysHeld : Event → ℕ → Outcomes → Bool → Type 0
+StaysHeld e progressing o r = (s : State) (xs : List RuleSlot) → Knows s xs o → o .guarded ≡ true → length xs ≡ progressing → r ≡ staysHeld (decide panel e s xs .verdict)
+
+-- the verdict, by whether the guard is true in every outcome and whether it is in some
+abbrev pub verdictBy : (every some : Bool) → Verdict
+verdictBy every some = cond every Accepted (cond some Held Rejected)

@@ -1,304 +1,225 @@
 // The steps of an account: request, commit and abort, and what follows every commit and abort (docs/REGISTER.md, 4.6 and 5).
+// Each works on one account of its own, place by place, with its loop in its own body: a helper that is handed a row and gives one back costs two copies of it.
 use crate::Account;
 use crate::Answer;
-use crate::Called;
-use crate::Decision;
-use crate::Entries;
-use crate::Entry;
-use crate::Slot;
-use crate::order::is_accept;
-use crate::order::is_hold;
-use crate::places::Row;
-use crate::weighing::Verdict;
-use crate::weighing::Weighing;
-use crate::weighing::decide;
+use crate::Stepped;
+use crate::refusing::Asked;
 use events::Event;
-use events::State;
+use filing::Decision;
+use filing::Entries;
+use filing::Entry;
+use filing::Filed;
+use filing::Slot;
+use filing::Verdict;
 ghost use mathlib.Core.Path.{_≡_};
-ghost use mathlib.Core.Bool.{true};
-ghost use mathlib.Core.List.{List, []};
-ghost use Prim.Native.Nat.{_+_, _≤_, _<_};
-ghost use lib.ListN.{length};
+ghost use Prim.Native.Nat.{_≤_, _+_};
 ghost use Rattle.rule.specs.Rule.{request, commit, abort};
-ghost use Rattle.rule.specs.InOrder.{guarded};
-ghost use Rattle.rule.specs.Step as rule;
-ghost use Rattle.account.specs.Panel.{panel, rowPlaces};
-ghost use Rattle.account.specs.Places.{RuleSlot, slotOf};
-ghost use Rattle.account.specs.InOrder.{inOrderOf};
-ghost use Rattle.account.specs.Known.{Decides};
-ghost use Rattle.account.specs.Clauses.{isAccept, listed};
-ghost use Rattle.account.specs.Steps.{RuleEntry, most, entriesOf, stepOf, refusedBy};
-ghost use Rattle.account.specs.Rows.{row, listOf, rowOf};
-ghost use Rattle.account.specs.Taken.{takenAs, undecidedSlot, Joined, Seeks};
-
-// What an account has of a transaction: whether it is in progress or held, whether it is held, whether it is committed, and its place.
-struct Sought {
-    named: bool,
-    waits: bool,
-    committed: bool,
-    slot: Slot,
-}
+ghost use Rattle.filing.specs.Slots.{places};
+ghost use Rattle.filing.specs.Entries.{most};
+ghost use Rattle.account.specs.First.{stepOf};
+ghost use Rattle.account.specs.Steps.{refusedStep};
+ghost use Rattle.account.specs.Taken.{WithoutEvent, WithoutRequest, Settles, Drains};
 
 impl Account {
     // A request: refused, or voted on, and in progress, held or gone by its vote.
-    pub fn request(self, transaction: u32, second: u32, event: Event) -> Called
-        ensures { λ r. ⌜ r ≡ stepOf self (request transaction second event) ⌝ }
+    pub fn request(self, transaction: u32, filed: Filed, event: Event) -> Stepped
+        ensures { λ r. ⌜ r ≡ stepOf self (request transaction filed event) ⌝ }
     {
-        if !self.in_order() {
-            return refused(self, 5);
-        }
-        let sought = self.seek(transaction);
-        if sought.named {
-            return refused(self, 6);
-        }
-        if Account::HELD <= self.holding {
-            return refused(self, 7);
-        }
-        let state = self.state;
-        ask(
-            state,
-            self.events(),
-            self.requests(),
+        let judged = self.judge(transaction);
+        let answer = judged.answer(Asked::Request, self.holding);
+        let Answer::Taken = answer else {
+            return self.refused(answer);
+        };
+        let outcomes = judged.outcomes;
+        let weighing = outcomes.decide_behind(self.holding, self.progressing, event);
+        let slot = Slot {
             transaction,
-            second,
+            filed,
             event,
-        )
-    }
-
-    // A commit: refused, or noted, the event marked, and what is then decided applied and voted on.
-    pub fn commit(self, transaction: u32, second: u32) -> Called
-        ensures { λ r. ⌜ r ≡ stepOf self (commit transaction second) ⌝ }
-    {
-        if !self.in_order() {
-            return refused(self, 5);
-        }
-        let sought = self.seek(transaction);
-        if !sought.named {
-            return refused(self, 8);
-        }
-        if sought.waits {
-            return refused(self, 9);
-        }
-        if sought.committed {
-            return refused(self, 10);
-        }
-        let entry = Entry::noted(transaction, second);
-        let state = self.state;
-        settle(
-            state,
-            self.events().marked(transaction),
-            self.requests(),
-            Entries::only(entry),
-        )
-    }
-
-    // An abort: refused, or the event or request dropped, and what is then decided applied and voted on.
-    pub fn abort(self, transaction: u32, second: u32) -> Called
-        ensures { λ r. ⌜ r ≡ stepOf self (abort transaction second) ⌝ }
-    {
-        if !self.in_order() {
-            return refused(self, 5);
-        }
-        let sought = self.seek(transaction);
-        if !sought.named {
-            return refused(self, 8);
-        }
-        if sought.committed {
-            return refused(self, 11);
-        }
-        let state = self.state;
-        let entry = Entry::dropped(sought.slot);
-        settle(
-            state,
-            self.events().without(transaction),
-            self.requests().without(transaction),
-            Entries::only(entry),
-        )
-    }
-
-    // The events in progress.
-    fn events(self) -> Row
-        ensures { λ r. ⌜ r ≡ row (self .progress) (self .progressing) ⌝ }
-    {
-        let slots = self.progress;
-        Row {
-            slots,
-            count: self.progressing,
-        }
-    }
-
-    // The requests held.
-    fn requests(self) -> Row
-        ensures { λ r. ⌜ r ≡ row (self .held) (self .holding) ⌝ }
-    {
-        let slots = self.held;
-        Row {
-            slots,
-            count: self.holding,
-        }
-    }
-
-    // What the account has of a transaction.
-    fn seek(self, transaction: u32) -> Sought
-        requires { ⌜ inOrderOf self ≡ true ⌝ }
-        ensures { λ r. ⌜ Seeks self transaction r ⌝ }
-    {
-        let event = self.events().find(transaction);
-        let request = self.requests().find(transaction);
-        let slot = event.or(request).place();
-        let waits = request.is_found();
-        Sought {
-            named: event.is_found() | waits,
-            waits,
-            committed: event.is_committed(),
-            slot,
-        }
-    }
-}
-
-// A refusal: its number, the same account, no entries.
-fn refused(account: Account, number: u8) -> Called
-    ensures { λ r. ⌜ r ≡ refusedBy account number ⌝ }
-{
-    let answer = Answer::Refused(number);
-    let entries = Entries::none();
-    Called {
-        answer,
-        account,
-        entries,
-    }
-}
-
-// A step that is taken: the account of these rows, and the entries.
-fn taken(state: State, progress: Row, held: Row, entries: Entries) -> Called
-    ensures { λ r. ⌜ ((events requests : List RuleSlot) (written : List RuleEntry) → progress ≡ rowOf events → held ≡ rowOf requests → entries ≡ entriesOf written → r ≡ takenAs (record { account = listed state events requests; entries = written })) ⌝ }
-{
-    let slots = progress.slots;
-    let waiting = held.slots;
-    let account = Account {
-        state,
-        progress: slots,
-        progressing: progress.count,
-        held: waiting,
-        holding: held.count,
-    };
-    let answer = Answer::Taken;
-    Called {
-        answer,
-        account,
-        entries,
-    }
-}
-
-// A request that is taken: it is in progress, held, or gone, and its entry carries its vote.
-fn ask(
-    state: State,
-    progress: Row,
-    held: Row,
-    transaction: u32,
-    second: u32,
-    event: Event,
-) -> Called
-    requires { ⌜ (progress .count ≤ rowPlaces) × (held .count < rowPlaces) ⌝ }
-    ensures { λ r. ⌜ ((events requests : List RuleSlot) → progress ≡ rowOf events → held ≡ rowOf requests → guarded panel state [] events ≡ true → r ≡ takenAs (rule.asked panel (listed state events requests) transaction second event)) ⌝ }
-{
-    let decision = Decision::Undecided;
-    let slot = Slot {
-        transaction,
-        second,
-        event,
-        decision,
-    };
-    let weighing = decide_behind(held.count, progress, state, event);
-    let entries = Entries::only(Entry::voted(slot, weighing));
-    let verdict = weighing.verdict;
-    if is_hold(verdict) {
-        return taken(state, progress, held.with(slot), entries);
-    }
-    taken(state, joined(progress, slot, verdict), held, entries)
-}
-
-// The decision on a request behind those held: held with 0 if there are any.
-fn decide_behind(holding: usize, progress: Row, state: State, event: Event) -> Weighing
-    requires { ⌜ progress .count ≤ rowPlaces ⌝ }
-    ensures { λ r. ⌜ ((requests : List RuleSlot) → holding ≡ length requests → Decides requests event state (listOf progress) (progress .count) r) ⌝ }
-{
-    let slots = progress.slots;
-    if holding == 0 {
-        return decide(slots, progress.count, state, event);
-    }
-    let verdict = Verdict::Hold;
-    Weighing {
-        verdict,
-        weighed: 0,
-    }
-}
-
-// What follows every commit and abort: the committed oldest are applied, then the requests held are looked at.
-fn settle(state: State, progress: Row, held: Row, entries: Entries) -> Called
-    requires { ⌜ (progress .count ≤ rowPlaces) × (held .count ≤ rowPlaces) × (entries .count + progress .count + held .count ≤ most) ⌝ }
-    ensures { λ r. ⌜ ((written : List RuleEntry) → entries ≡ entriesOf written → guarded panel state [] (listOf progress) ≡ true → r ≡ takenAs (rule.after written (rule.settle panel state (listOf progress) (listOf held)))) ⌝ }
-{
-    let slots = progress.slots;
-    let mut settled = state;
-    let mut told = entries;
-    let mut first = 0;
-    while !progress.settled(first) {
-        let slot = slots[first];
-        let event = slot.event;
-        settled = event.effect(settled);
-        told = told.with(Entry::applied(slot, settled.balance));
-        first += 1;
-    }
-    drain(settled, progress.after(first), held, told)
-}
-
-// The requests held are weighed, the oldest first, until one stays held.
-fn drain(state: State, progress: Row, held: Row, entries: Entries) -> Called
-    requires { ⌜ (progress .count ≤ rowPlaces) × (held .count ≤ rowPlaces) × (entries .count + held .count ≤ most) ⌝ }
-    ensures { λ r. ⌜ ((events : List RuleSlot) (written : List RuleEntry) → progress ≡ rowOf events → entries ≡ entriesOf written → guarded panel state [] events ≡ true → r ≡ takenAs (rule.after written (rule.drain panel state events (listOf held)))) ⌝ }
-{
-    let slots = held.slots;
-    let mut joining = progress;
-    let mut told = entries;
-    let mut first = 0;
-    while first < held.count {
-        let slot = slots[first];
-        let event = slot.event;
-        let places = joining.slots;
-        let weighing = decide(places, joining.count, state, event);
+            decision: Decision::Undecided,
+        };
         let verdict = weighing.verdict;
-        if is_hold(verdict) {
-            return taken(state, joining, held.after(first), told);
+        let mut next = self;
+        match verdict {
+            Verdict::Accepted => {
+                let free = next.progressing;
+                next.progress[free] = slot;
+                next.progressing = free + 1;
+            }
+            Verdict::Rejected => {}
+            Verdict::Held => {
+                let free = next.holding;
+                next.held[free] = slot;
+                next.holding = free + 1;
+            }
         }
-        joining = joined(joining, slot, verdict);
-        told = told.with(Entry::voted(slot, weighing));
-        first += 1;
+        Stepped {
+            account: next,
+            entries: Entries::only(Entry::voted(slot, weighing)),
+            answer,
+        }
     }
-    taken(state, joining, held.after(first), told)
-}
 
-// The events in progress after a vote on a request: the request is one of them if it was accepted.
-fn joined(progress: Row, slot: Slot, verdict: Verdict) -> Row
-    requires { ⌜ (progress .count ≤ rowPlaces) × (isAccept verdict ≡ true → progress .count < rowPlaces) ⌝ }
-    ensures { λ r. ⌜ Joined progress slot verdict r ⌝ }
-{
-    if is_accept(verdict) {
-        return progress.with(undecided(slot));
+    // A commit: refused, or noted, and the event is committed.
+    pub fn commit(self, transaction: u32, filed: Filed) -> Stepped
+        ensures { λ r. ⌜ r ≡ stepOf self (commit transaction filed) ⌝ }
+    {
+        let judged = self.judge(transaction);
+        let answer = judged.answer(Asked::Commit, self.holding);
+        let Answer::Taken = answer else {
+            return self.refused(answer);
+        };
+        self.settle(judged.event, Entry::noted(transaction, filed))
     }
-    progress
-}
 
-// The place, undecided.
-fn undecided(slot: Slot) -> Slot
-    ensures { λ r. ⌜ slotOf r ≡ undecidedSlot slot ⌝ }
-{
-    let event = slot.event;
-    let decision = Decision::Undecided;
-    Slot {
-        transaction: slot.transaction,
-        second: slot.second,
-        event,
-        decision,
+    // An abort: refused, or the event or the request is dropped.
+    pub fn abort(self, transaction: u32, filed: Filed) -> Stepped
+        ensures { λ r. ⌜ r ≡ stepOf self (abort transaction filed) ⌝ }
+    {
+        let judged = self.judge(transaction);
+        let answer = judged.answer(Asked::Abort, self.holding);
+        let Answer::Taken = answer else {
+            return self.refused(answer);
+        };
+        let slot = judged.slot;
+        let left = self.without_event(transaction);
+        let rest = left.without_request(transaction);
+        rest.settle(Account::PLACES, Entry::dropped(slot))
+    }
+
+    // A refusal: the same account, no entries.
+    fn refused(self, answer: Answer) -> Stepped
+        ensures { λ r. ⌜ r ≡ refusedStep self answer ⌝ }
+    {
+        Stepped {
+            account: self,
+            entries: Entries::NONE,
+            answer,
+        }
+    }
+
+    // The account without the event in progress of that transaction: the younger ones move up.
+    fn without_event(self, transaction: u32) -> Account
+        requires { ⌜ self .progressing ≤ places ⌝ }
+        ensures { λ r. ⌜ WithoutEvent self transaction r ⌝ }
+    {
+        let mut next = self;
+        let mut left = 0;
+        let mut at = 0;
+        while at < self.progressing {
+            let slot = next.progress[at];
+            next.progress[at] = Slot::BLANK;
+            if transaction != slot.transaction {
+                next.progress[left] = slot;
+                left += 1;
+            }
+            at += 1;
+        }
+        next.progressing = left;
+        next
+    }
+
+    // The account without the held request of that transaction: the younger ones move up.
+    fn without_request(self, transaction: u32) -> Account
+        requires { ⌜ self .holding ≤ places ⌝ }
+        ensures { λ r. ⌜ WithoutRequest self transaction r ⌝ }
+    {
+        let mut next = self;
+        let mut left = 0;
+        let mut at = 0;
+        while at < self.holding {
+            let slot = next.held[at];
+            next.held[at] = Slot::BLANK;
+            if transaction != slot.transaction {
+                next.held[left] = slot;
+                left += 1;
+            }
+            at += 1;
+        }
+        next.holding = left;
+        next
+    }
+
+    // What follows every commit and abort: the event at `marked`, if that is a place, is committed; the committed oldest are applied, then the requests held are looked at.
+    // `first` is the call's own entry.
+    fn settle(self, marked: usize, first: Entry) -> Stepped
+        requires { ⌜ (self .progressing ≤ places) × (self .holding ≤ places) ⌝ }
+        ensures { λ r. ⌜ Settles self marked first r ⌝ }
+    {
+        let mut next = self;
+        if marked < Account::PLACES {
+            let slot = next.progress[marked];
+            next.progress[marked] = slot.committed();
+        }
+        let mut entries = Entries::only(first);
+        let mut state = self.state;
+        let mut ended = 0;
+        let mut at = 0;
+        while at < self.progressing {
+            let slot = next.progress[at];
+            let event = slot.event;
+            let decision = slot.decision;
+            next.progress[at] = Slot::BLANK;
+            if (at == ended) & !decision.is_undecided() {
+                state = event.effect(state);
+                let count = entries.count;
+                entries.at[count] = Entry::applied(slot, state.balance);
+                entries.count = count + 1;
+                ended += 1;
+            } else {
+                next.progress[at - ended] = slot;
+            }
+            at += 1;
+        }
+        next.state = state;
+        next.progressing = self.progressing - ended;
+        next.drain(entries)
+    }
+
+    // The requests held are weighed, the oldest first, until one stays held.
+    fn drain(self, written: Entries) -> Stepped
+        requires { ⌜ (self .progressing ≤ places) × (self .holding ≤ places) × (written .count + self .holding ≤ most) ⌝ }
+        ensures { λ r. ⌜ Drains self written r ⌝ }
+    {
+        let mut next = self;
+        let mut entries = written;
+        if self.holding == 0 {
+            return Stepped {
+                account: next,
+                entries,
+                answer: Answer::Taken,
+            };
+        }
+        let mut outcomes = self.outcomes();
+        let mut voted = 0;
+        let mut at = 0;
+        while at < self.holding {
+            let slot = next.held[at];
+            let event = slot.event;
+            let weighing = outcomes.decide(next.progressing, event);
+            let verdict = weighing.verdict;
+            next.held[at] = Slot::BLANK;
+            if (at == voted) & !verdict.is_held() {
+                if verdict.is_accepted() {
+                    let free = next.progressing;
+                    next.progress[free] = slot;
+                    next.progressing = free + 1;
+                    outcomes = outcomes.with(event, Decision::Undecided);
+                }
+                let count = entries.count;
+                entries.at[count] = Entry::voted(slot, weighing);
+                entries.count = count + 1;
+                voted += 1;
+            } else {
+                next.held[at - voted] = slot;
+            }
+            at += 1;
+        }
+        next.holding = self.holding - voted;
+        Stepped {
+            account: next,
+            entries,
+            answer: Answer::Taken,
+        }
     }
 }
