@@ -1,1 +1,5 @@
-
+pub mod Places
+pub mod Clauses
+pub mod Moved
+pub mod TakenOut
+pub mod Padded
