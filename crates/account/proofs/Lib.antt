@@ -1,1 +1,5 @@
-
+pub mod Places
+pub mod Clauses
+pub mod Judged
+pub mod Known
+pub mod Decided
