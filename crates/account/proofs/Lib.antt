@@ -1,5 +1,8 @@
 pub mod Places
 pub mod Clauses
+pub mod Judged
+pub mod Known
+pub mod Decided
+pub mod Padded
 pub mod Moved
 pub mod TakenOut
-pub mod Padded
