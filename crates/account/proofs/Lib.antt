@@ -6,3 +6,8 @@ pub mod Decided
 pub mod Padded
 pub mod Moved
 pub mod TakenOut
+pub mod Slices
+pub mod Taken
+pub mod Drained
+pub mod MovedUp
+pub mod Voting
