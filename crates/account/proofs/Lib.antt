@@ -11,3 +11,5 @@ pub mod Taken
 pub mod Drained
 pub mod MovedUp
 pub mod Voting
+pub mod Settled
+pub mod Applying
