@@ -13,3 +13,8 @@ pub mod MovedUp
 pub mod Voting
 pub mod Settled
 pub mod Applying
+pub mod Ordered
+pub mod Answered
+pub mod Asked
+pub mod Marked
+pub mod Ended

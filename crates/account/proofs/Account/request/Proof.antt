@@ -1,88 +1,128 @@
+-- What is refused is refused by what judging found; what is taken goes by its vote.
+-- Assumes nothing.
+use Prim.Native.Nat.{_<_}
+use mathlib.Core.Path.{_≡_, refl, sym, ap, _∙_}
+use mathlib.Core.Logic.{⊎-elim}
+use mathlib.Core.Bool.{true, cond}
+use mathlib.Core.Option.{some}
+use native.Mathlib.Omega.{arith}
+use lib.Dec.{lit≤}
+use lib.ListN.{length}
 use borrow.Author.Needs.{needs}
+use Rattle.rule.specs.Rule.{request, voted}
+use Rattle.rule.specs.Call.{refusal}
+use Rattle.filing.specs.Entries.{isAccepted, weighingOf, entryOf, onlyEntry}
+use Rattle.account.specs.Places.{listsOf}
+use Rattle.account.specs.Steps.{refusalIn}
+use Rattle.account.specs.First.{panel, inOrderOf}
+use Rattle.account.proofs.Places.{as-many}
+use Rattle.account.proofs.Asked.{Weighed, request-weighed, asked-accept, asked-reject, asked-hold}
+use Rattle.account.proofs.Answered.{judged-answer, answer-refused, answer-order, answer-taken}
 use Rattle.account.proofs.Account.request.Statement.{statement}
 use Rattle.account.proofs.Account.request.Tie as tie
-use Rattle.account.proofs.Account.request.Reads as reads
-use Rattle.account.proofs.Account.request.Lts as lts
-use Rattle.account.proofs.Account.judge.Reads as judge-reads
-use Rattle.account.proofs.Account.refused.Reads as refused-reads
-use Rattle.account.proofs.judging.Judged.answer.Reads as answer-reads
-use Rattle.account.proofs.outcomes.Outcomes.decide_behind.Reads as decide-behind-reads
-use Rattle.filing.proofs.Entries.only.Reads as only-reads
-use Rattle.filing.proofs.Entry.voted.Reads as voted-reads
 
--- src/steps.rt:28:13
+-- the answer is the rule's
+says : (c : tie.After-answer) → let a = c .before .before .args in
+    refusalIn (c .answer .result) ≡ cond (inOrderOf (a .self)) (refusal panel (listsOf (a .self)) (request (a .transaction) (a .filed) (a .event))) (some 5)
+says c =
+    let start = c .before .before in
+    let a = start .args in
+    ap refusalIn (c .answer .ensures)
+    ∙ judged-answer (a .self) (c .before .judge .result) (as-many (a .self .held) (start .good .0 .1 .1 .1 .1 .1 .0 .1 .0 .1)) (request (a .transaction) (a .filed) (a .event)) (c .before .judge .ensures)
+
 judge-requires : tie.Need-judge-requires
 judge-requires c κs = search needs
 
--- src/steps.rt:29:13
 answer-requires : tie.Need-answer-requires
 answer-requires c κs = search needs
 
 enum-told : tie.Need-enum-told
 enum-told c = search needs
 
--- src/steps.rt:31:13
 enum-told-2 : tie.Need-enum-told-2
 enum-told-2 c = search needs
 
--- src/steps.rt:31:13
 refused-requires : tie.Need-refused-requires
 refused-requires c κs = search needs
 
--- src/steps.rt:31:13
 returns : tie.Need-returns
-returns c = ?
+returns c =
+    let answered = c .before .before .before in
+    let a = answered .before .before .args in
+    c .refused .ensures ∙ answer-refused panel (a .self) (request (a .transaction) (a .filed) (a .event)) (answered .answer .result) (says answered) _ (c .before .enum-told2 .given .1)
 
--- src/steps.rt:34:13
+-- past that the account is in order, and the weighing is the rule's
+weighed : (c : tie.After-decide-behind) → let a = c .before .before .before .before .before .before .args in Weighed (a .self) (a .event) (c .decide-behind .result)
+weighed c =
+    let told = c .before .before in
+    let answered = told .before .before in
+    let judged = answered .before in
+    let start = judged .before in
+    let a = start .args in
+    let message = request (a .transaction) (a .filed) (a .event) in
+    let taken = answer-order panel (a .self) message (answered .answer .result) (says answered) (told .enum-told .given .1) in
+    request-weighed (a .self) (as-many (a .self .progress) (start .good .0 .1 .1 .1 .0 .1 .0 .1)) (as-many (a .self .held) (start .good .0 .1 .1 .1 .1 .1 .0 .1 .0 .1))
+    (a .transaction) (a .filed) (a .event) (taken .0) (taken .1) (judged .judge .result .outcomes) (judged .judge .ensures .knows (taken .0)) (c .decide-behind .result) (c .decide-behind .ensures)
+
 decide-behind-requires : tie.Need-decide-behind-requires
 decide-behind-requires c κs = search needs
 
--- src/steps.rt:45:21
 enum-told-3 : tie.Need-enum-told-3
 enum-told-3 c = search needs
 
--- src/steps.rt:46:17
+free : (c : tie.After-enum-told3) → let a = c .before .before .before .before .before .before .before .before .args in a .self .progressing < 8
+free c = weighed (c .before .before) .free (ap isAccepted (c .enum-told3 .given .1))
+
 mul-slot : tie.Need-mul-slot
-mul-slot c = ?
+mul-slot c = omega (arith, free c)
 
--- src/steps.rt:46:17
 element-set-from-slot : tie.Need-element-set-from-slot
-element-set-from-slot c = ?
+element-set-from-slot c = free c
 
--- src/steps.rt:47:36
 add-next : tie.Need-add-next
-add-next c = ?
+add-next c = omega (arith, free c)
 
 enum-told-4 : tie.Need-enum-told-4
 enum-told-4 c = search needs
 
--- src/steps.rt:51:21
 enum-told-5 : tie.Need-enum-told-5
 enum-told-5 c = search needs
 
--- src/steps.rt:52:17
 mul-slot-2 : tie.Need-mul-slot-2
-mul-slot-2 c = ?
+mul-slot-2 c = omega (arith, weighed (c .before .before) .room)
 
--- src/steps.rt:52:17
 element-set-from-slot-2 : tie.Need-element-set-from-slot-2
-element-set-from-slot-2 c = ?
+element-set-from-slot-2 c = weighed (c .before .before) .room
 
--- src/steps.rt:53:32
 add-next-2 : tie.Need-add-next-2
-add-next-2 c = ?
+add-next-2 c = omega (arith, weighed (c .before .before) .room)
 
--- src/steps.rt:58:36
 voted-requires : tie.Need-voted-requires
 voted-requires c κs = search needs
 
--- src/steps.rt:58:22
 only-requires : tie.Need-only-requires
 only-requires c κs = search needs
 
--- src/steps.rt:25:5
 returns-2 : tie.Need-returns-2
-returns-2 c = ?
+returns-2 c =
+    let join = c .before .before in
+    let weighing = join .before in
+    let told = weighing .before .before in
+    let answered = told .before .before in
+    let a = answered .before .before .args in
+    let known = weighed weighing in
+    let taken = told .enum-told .given .1 in
+    let message = request (a .transaction) (a .filed) (a .event) in
+    let entries : c .only .result ≡ onlyEntry (entryOf (voted (a .transaction) (a .filed) (a .event) (weighingOf (weighing .decide-behind .result)))) = c .only .ensures ∙ ap onlyEntry (c .before .voted .ensures) in
+    rw taken
+    (⊎-elim
+    (λ w. rw (w .2) (asked-accept panel (a .self) (listsOf (a .self)) (known .lists) (a .transaction) (a .filed) (a .event) (weighing .decide-behind .result) (known .decided) (c .only .result) entries (w .1 .given .1) (known .free (ap isAccepted (w .1 .given .1)))))
+    (λ y. ⊎-elim
+    (λ w. rw (w .2) (asked-reject panel (a .self) (listsOf (a .self)) (known .lists) (a .transaction) (a .filed) (a .event) (weighing .decide-behind .result) (known .decided) (c .only .result) entries (w .1 .given .1)))
+    (λ w. rw (w .2) (asked-hold panel (a .self) (listsOf (a .self)) (known .lists) (a .transaction) (a .filed) (a .event) (weighing .decide-behind .result) (known .decided) (c .only .result) entries (w .1 .given .1) (known .room)))
+    y)
+    (join .match2 .came))
+    ∙ answer-taken panel (a .self) message (answered .answer .result) (says answered) taken
 
 pub request-spec : {M : Type 1} → statement M
 request-spec =
