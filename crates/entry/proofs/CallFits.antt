@@ -32,7 +32,7 @@ use Rattle.account.specs.InOrder.{inOrderOf}
 use Rattle.account.specs.Steps.{RuleEntry, entryOf, votedAs, entriesOf, blankEntry, most, stepOf, calledBy}
 use Rattle.account.proofs.Clauses.{order-counts}
 use Rattle.account.proofs.Ordered.{order-rule}
-use Rattle.layout.specs.Fields.{rowOf}
+use Rattle.layout.specs.Fields.{rowOfKind}
 use Rattle.layout.specs.Answers.{given, wroteOver, refusedWith}
 use Rattle.entry.specs.Bytes.{entryRows, lengthOfTold, bytesOfEntries, wholesOf, listOf}
 use Rattle.entry.specs.Answers.{longestCall, writeOf}
@@ -68,14 +68,14 @@ within-append xs ys a b c d p q =
     }
 
 vote-size : (v : Verdict) (e : Event) (n : ℕ) → lengthOfTold (votedAs v e n) ≡ 18
-unfolding lengthOfTold rowOf entryRows
+unfolding lengthOfTold rowOfKind entryRows
 vote-size accept e n = refl
 vote-size reject e n = refl
 vote-size hold e n = refl
 
 -- entries of events applied, and votes
 applied-within : (xs : List RuleEntry) → OnlyApplied xs → Within xs (length xs) (20 * length xs)
-unfolding lengthOfTold rowOf entryRows
+unfolding lengthOfTold rowOfKind entryRows
 applied-within [] h = within-none 0 0
 applied-within (rule.voted v t g e n ∷ xs) h = absurd h
 applied-within (rule.noted t g ∷ xs) h = absurd h
@@ -105,7 +105,7 @@ following-within p d xs f =
 -- a call by its shape
 shape-within : {S : Type 0} (a : rule.Account ℕ S Event) (m : rule.Message ℕ Event) (xs : List RuleEntry) → length (a .progress) ≤ 8 → length (a .held) ≤ 8
     → Shape a m xs → Within xs most longestCall
-unfolding lengthOfTold rowOf entryRows
+unfolding lengthOfTold rowOfKind entryRows
 shape-within a (rule.request t g e) xs p h s =
     let own = rule.voted (s .0) t g e (s .1) in
     rw (s .2) (within-more (own ∷ []) (1 + 0) (18 + 0) most longestCall (within-one own [] 18 0 0 (vote-size (s .0) e (s .1)) (within-none 0 0)) (lit≤ tt) (lit≤ tt))
@@ -181,7 +181,7 @@ calls-refused a m account buffer = go (ltb (length buffer) longestCall) refl
         rw (le-ltb (length buffer) (length bytes) (omega arith))
 
 longest-wholes : wholesOf (listOf (stepOf fullAccount (rule.commit 1 0) .entries)) ≡ longestCall
-unfolding stepOf inOrderOf rule-order.isInOrder outcomes weigh decide effectOf listsOf accountOf entriesOf call.call settle committing wholesOf lengthOfTold rowOf entryRows
+unfolding stepOf inOrderOf rule-order.isInOrder outcomes weigh decide effectOf listsOf accountOf entriesOf call.call settle committing wholesOf lengthOfTold rowOfKind entryRows
 longest-wholes = refl
 
 pub longest-there-is : LongestThereIs

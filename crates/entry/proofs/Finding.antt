@@ -15,7 +15,7 @@ use Rattle.account.specs.declared.Told.{Told}
 use Rattle.account.specs.declared.Told.the-variants.{Accepted, Rejected, Held, Noted, Applied, Dropped}
 use Rattle.account.specs.declared.Entry.{Entry}
 use Rattle.layout.specs.Number.{numberAt}
-use Rattle.layout.specs.Fields.{rowOf, wholeOf, numbersAt}
+use Rattle.layout.specs.Fields.{rowOfKind, wholeOf, numbersAt}
 use Rattle.events.specs.Kinds.{eventKind, amountOf, eventOf}
 use Rattle.layout.specs.Plain.{twoAt, fourAt}
 use Rattle.layout.proofs.Tables.{present}
@@ -59,9 +59,9 @@ event-read bytes f =
     event-stands bytes (eventAt bytes) (sym (numbers-plain bytes 11 0 .read1) ∙ sym (b .0), sym (numbers-plain bytes 12 0 .read4) ∙ sym (b .1))
 
 -- what the bytes' kind tells stands in them, and is as long as the kind says
-module _ (bytes : List ℕ) (kind : ℕ) (p : 0 < wholeOf (rowOf entryRows kind)) where
+module _ (bytes : List ℕ) (kind : ℕ) (p : 0 < wholeOf (rowOfKind entryRows kind)) where
   stands-by : kind ≡ numberAt bytes 0 1 → fitsAt bytes kind ≡ true → Stands bytes (toldBy kind (eventAt bytes) (numberAfter bytes kind))
-  unfolding rowOf entryRows toldBy
+  unfolding rowOfKind entryRows toldBy
   stands-by e f =
       let first : (k : ℕ) → k ≡ numberAt bytes 0 1 → getD bytes 0 0 ≡ k = λ k e. sym (numbers-plain bytes 0 0 .read1) ∙ sym e in
       let two = sym (numbers-plain bytes 16 0 .read2) in
@@ -80,11 +80,11 @@ module _ (bytes : List ℕ) (kind : ℕ) (p : 0 < wholeOf (rowOf entryRows kind)
       )
       p e f
 
-  length-by : wholeOf (rowOf entryRows kind) ≡ lengthIn (toldBy kind (eventAt bytes) (numberAfter bytes kind))
-  unfolding rowOf entryRows toldBy
+  length-by : wholeOf (rowOfKind entryRows kind) ≡ lengthIn (toldBy kind (eventAt bytes) (numberAfter bytes kind))
+  unfolding rowOfKind entryRows toldBy
   length-by =
       present
-      (λ (k : ℕ). wholeOf (rowOf entryRows k) ≡ lengthIn (toldBy k (eventAt bytes) (numberAfter bytes k)))
+      (λ (k : ℕ). wholeOf (rowOfKind entryRows k) ≡ lengthIn (toldBy k (eventAt bytes) (numberAfter bytes k)))
       entryRows kind (refl, (refl, (refl, (refl, (refl, (refl, tt)))))) p
 
 -- what was found stands at the beginning
@@ -95,8 +95,8 @@ found-begins bytes e account whole r =
     let n = numbers-plain bytes in
     let t = taken-of bytes account e whole r in
     let f : fitsAt bytes kind ≡ true = sym (fits-read bytes kind (t .positive)) ∙ t .fitting in
-    let q = read-fitting bytes kind (wholeOf (rowOf entryRows kind)) refl refl (λ z. omega (arith, t .positive)) (t .enough) (t .known) in
-    let same : Found (entryAt bytes kind) (numberAt bytes 5 2) (wholeOf (rowOf entryRows kind)) ≡ Found e account whole = sym (rw f at q) ∙ r in
+    let q = read-fitting bytes kind (wholeOf (rowOfKind entryRows kind)) refl refl (λ z. omega (arith, t .positive)) (t .enough) (t .known) in
+    let same : Found (entryAt bytes kind) (numberAt bytes 5 2) (wholeOf (rowOfKind entryRows kind)) ≡ Found e account whole = sym (rw f at q) ∙ r in
     let entry : entryAt bytes kind ≡ e = cc same in
     let told : toldBy kind (eventAt bytes) (numberAfter bytes kind) ≡ e .told = ap (λ (x : Entry). x .told) entry in
     record {
@@ -184,7 +184,7 @@ none-by bytes = go (leb 17 kind && leb kind 22) (ltb (length bytes) (kindLength 
     k : kind ≡ numberAt bytes 0 1
     k = sym (numbers-plain bytes 0 0 .read1)
 
-    whole : (a : Bool) → leb 17 kind && leb kind 22 ≡ a → cond a (kindLength kind) 0 ≡ wholeOf (rowOf entryRows kind)
+    whole : (a : Bool) → leb 17 kind && leb kind 22 ≡ a → cond a (kindLength kind) 0 ≡ wholeOf (rowOfKind entryRows kind)
     whole a p = sym (rw p at (lengths-plain kind))
 
     go : (a b d : Bool) → leb 17 kind && leb kind 22 ≡ a → ltb (length bytes) (kindLength kind) ≡ b → ltb 15 (twoAt bytes 5) ≡ d

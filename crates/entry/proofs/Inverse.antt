@@ -12,7 +12,7 @@ use lib.Dec.{eqb, leb, ltb}
 use lib.ListN.{length, getD, take, drop, length-append}
 use Rattle.account.specs.declared.Entry.{Entry}
 use Rattle.layout.specs.Number.{numberAt}
-use Rattle.layout.specs.Fields.{Row, rowOf, wholeOf, thenOf, widthsOf, numbersAt, total, lastAccount}
+use Rattle.layout.specs.Fields.{KindRow, rowOfKind, wholeOf, thenOf, widthsOf, numbersAt, total, lastAccount}
 use Rattle.events.specs.Kinds.{eventKind, amountOf, eventOf}
 use Rattle.layout.specs.Inverse.{Fit}
 use Rattle.layout.proofs.Numbers.{numberAt-fits}
@@ -33,7 +33,7 @@ pub reads-written : ReadsWritten
 unfolding numbersAt bytesOfEntry lengthOfTold
 reads-written account e after p =
     let told = e .told in
-    let found = rowOf entryRows (kindOf told) in
+    let found = rowOfKind entryRows (kindOf told) in
     let bytes = bytesOfEntry account e ++ after in
     let numbers = numbersOf account e in
     let n : length bytes ≡ lengthOfTold told + length after = rw (length-append, length-entry account e) in
@@ -48,7 +48,7 @@ reads-written account e after p =
     ∙ rw (shaped told .fitting, shaped told .numbers)
 
 -- what an entry that was read says of the row by which it was read
-pub record Taken (found : Option Row) (bytes : List ℕ) (account : ℕ) (e : Entry) (whole : ℕ) : Type 0 where
+pub record Taken (found : Option KindRow) (bytes : List ℕ) (account : ℕ) (e : Entry) (whole : ℕ) : Type 0 where
   pub positive : 0 < wholeOf found
   pub enough : wholeOf found ≤ length bytes
   pub fitting : thenFits (drop 4 (numbersAt (widthsOf found) bytes 0)) ≡ true
@@ -71,7 +71,7 @@ held : (b : Bool) (next : EntryReading) (e : Entry) (account whole : ℕ) → co
 held true next e account whole n = (refl, n)
 held false next e account whole n = absurd (nothing-found e account whole n)
 
-by-row : (found : Option Row) (bytes : List ℕ) (account : ℕ) (e : Entry) (whole : ℕ) → 0 < wholeOf found → readKind found bytes ≡ Found e account whole
+by-row : (found : Option KindRow) (bytes : List ℕ) (account : ℕ) (e : Entry) (whole : ℕ) → 0 < wholeOf found → readKind found bytes ≡ Found e account whole
     → Taken found bytes account e whole
 by-row none bytes account e whole p n = absurd (omega arith)
 by-row (some r) bytes account e whole p n =
@@ -91,13 +91,13 @@ by-row (some r) bytes account e whole p n =
     }
 
 pub taken-of : (bytes : List ℕ) (account : ℕ) (e : Entry) (whole : ℕ) → readOf bytes ≡ Found e account whole
-    → Taken (rowOf entryRows (numberAt bytes 0 1)) bytes account e whole
+    → Taken (rowOfKind entryRows (numberAt bytes 0 1)) bytes account e whole
 unfolding readOf entryRows
 taken-of bytes account e whole n =
     let kind = numberAt bytes 0 1 in
-    let p : wholeOf (rowOf entryRows kind) ≡ 0 → ⊥ =
+    let p : wholeOf (rowOfKind entryRows kind) ≡ 0 → ⊥ =
     λ z. nothing-found e account whole (rw (unknown entryRows kind (omega arith) z) at n) in
-    by-row (rowOf entryRows kind) bytes account e whole (omega arith) n
+    by-row (rowOfKind entryRows kind) bytes account e whole (omega arith) n
 
 -- an event that fits is the one of its kind and amount
 pub event-back : (kind amount : ℕ) → eventFits kind amount ≡ true → (eventKind (eventOf kind amount) ≡ kind) × (amountOf (eventOf kind amount) ≡ amount)
@@ -121,16 +121,16 @@ event-back kind amount f = go (eqb kind 1) (eqb kind 2) (eqb kind 3) refl refl r
         rw (four, zero) (refl, refl)
 
 -- the numbers that were read are those of the entry
-numbers-back : (bytes : List ℕ) (kind : ℕ) → 0 < wholeOf (rowOf entryRows kind) → kind ≡ numberAt bytes 0 1
-    → thenFits (numbersAt (thenOf (rowOf entryRows kind)) bytes 11) ≡ true
-    → numbersOf (numberAt bytes 5 2) (entryOf (numbersAt (widthsOf (rowOf entryRows kind)) bytes 0)) ≡ numbersAt (widthsOf (rowOf entryRows kind)) bytes 0
-unfolding rowOf entryRows numbersAt toldBy
+numbers-back : (bytes : List ℕ) (kind : ℕ) → 0 < wholeOf (rowOfKind entryRows kind) → kind ≡ numberAt bytes 0 1
+    → thenFits (numbersAt (thenOf (rowOfKind entryRows kind)) bytes 11) ≡ true
+    → numbersOf (numberAt bytes 5 2) (entryOf (numbersAt (widthsOf (rowOfKind entryRows kind)) bytes 0)) ≡ numbersAt (widthsOf (rowOfKind entryRows kind)) bytes 0
+unfolding rowOfKind entryRows numbersAt toldBy
 numbers-back bytes kind p =
     let k = numberAt bytes 11 1 in
     let a = numberAt bytes 12 4 in
     present
-    (λ (k : ℕ). k ≡ numberAt bytes 0 1 → thenFits (numbersAt (thenOf (rowOf entryRows k)) bytes 11) ≡ true
-    → numbersOf (numberAt bytes 5 2) (entryOf (numbersAt (widthsOf (rowOf entryRows k)) bytes 0)) ≡ numbersAt (widthsOf (rowOf entryRows k)) bytes 0)
+    (λ (k : ℕ). k ≡ numberAt bytes 0 1 → thenFits (numbersAt (thenOf (rowOfKind entryRows k)) bytes 11) ≡ true
+    → numbersOf (numberAt bytes 5 2) (entryOf (numbersAt (widthsOf (rowOfKind entryRows k)) bytes 0)) ≡ numbersAt (widthsOf (rowOfKind entryRows k)) bytes 0)
     entryRows kind (
       (λ e f. rw (← e, event-back k a f .0, event-back k a f .1)),
       (
@@ -153,7 +153,7 @@ pub writes-read : WritesRead
 unfolding numbersAt bytesOfEntry lengthOfTold
 writes-read bytes account e whole b n =
     let kind = numberAt bytes 0 1 in
-    let found = rowOf entryRows kind in
+    let found = rowOfKind entryRows kind in
     let t = taken-of bytes account e whole n in
     let numbers : numbersOf account e ≡ numbersAt (widthsOf found) bytes 0 =
     sym (ap₂ numbersOf (t .account′) (t .entry)) ∙ numbers-back bytes kind (t .positive) refl (t .fitting) in

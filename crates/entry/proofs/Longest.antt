@@ -11,14 +11,14 @@ use Rattle.rule.specs.Lists.{every}
 use Rattle.account.specs.declared.Told.{Told}
 use Rattle.account.specs.declared.Told.the-variants.{Accepted, Rejected, Held, Noted, Applied, Dropped}
 use Rattle.account.specs.declared.Entry.{Entry}
-use Rattle.layout.specs.Fields.{rowOf}
+use Rattle.layout.specs.Fields.{rowOfKind}
 use Rattle.entry.specs.Bytes.{entryRows, lengthOfTold, wholesOf}
 use Rattle.entry.specs.Longest.{isApplied, isVote, CallsSized}
 use Rattle.entry.proofs.Booleans.{both}
 use Rattle.entry.proofs.Stored.{wholes-append}
 
 applied-length : (told : Told) → isApplied told ≡ true → lengthOfTold told ≡ 20
-unfolding lengthOfTold rowOf entryRows
+unfolding lengthOfTold rowOfKind entryRows
 applied-length (Accepted e n) h = absurd (false≢true h)
 applied-length (Rejected e n) h = absurd (false≢true h)
 applied-length (Held e n) h = absurd (false≢true h)
@@ -27,7 +27,7 @@ applied-length (Applied e n) h = refl
 applied-length (Dropped e) h = absurd (false≢true h)
 
 vote-length : (told : Told) → isVote told ≡ true → lengthOfTold told ≡ 18
-unfolding lengthOfTold rowOf entryRows
+unfolding lengthOfTold rowOfKind entryRows
 vote-length (Accepted e n) h = refl
 vote-length (Rejected e n) h = refl
 vote-length (Held e n) h = refl
@@ -45,7 +45,7 @@ same-lengths size test each (x ∷ xs) h =
     rw (each (x .told) (p .0), same-lengths size test each xs (p .1), mul-suc) (omega arith)
 
 pub calls-sized : CallsSized
-unfolding wholesOf lengthOfTold rowOf entryRows
+unfolding wholesOf lengthOfTold rowOfKind entryRows
 calls-sized applied votes p q =
     let a = same-lengths 20 isApplied applied-length applied p in
     let v = same-lengths 18 isVote vote-length votes q in

@@ -11,7 +11,7 @@ use Rattle.events.specs.declared.Event.{Event}
 use Rattle.events.specs.declared.Event.the-variants.{Open, Withdraw, Deposit, Close}
 use Rattle.account.specs.declared.Told.{Told}
 use Rattle.account.specs.declared.Told.the-variants.{Accepted, Rejected, Held, Noted, Applied, Dropped}
-use Rattle.layout.specs.Fields.{rowOf, thenOf, widthsOf, total}
+use Rattle.layout.specs.Fields.{rowOfKind, thenOf, widthsOf, total}
 use Rattle.layout.specs.Shapes.{padded}
 use Rattle.events.specs.Kinds.{eventKind, amountOf, eventOf}
 use Rattle.layout.specs.Inverse.{Fit, none, one}
@@ -39,21 +39,21 @@ pub record Shaped (told : Told) : Type 0 where
   pub numbers : toldBy (kindOf told) (eventOf (getD (thenNumbers told) 0 0) (getD (thenNumbers told) 1 0)) (getD (thenNumbers told) 2 0) ≡ told
   pub fitting : thenFits (thenNumbers told) ≡ true
   -- there is a number for each width, and 0 in the places behind them
-  pub paired : length (thenOf (rowOf entryRows (kindOf told))) ≡ length (thenNumbers told)
+  pub paired : length (thenOf (rowOfKind entryRows (kindOf told))) ≡ length (thenNumbers told)
   pub places : (t a s : ℕ)
       → kindOf told ∷ t ∷ a ∷ s ∷ thenIn told .event ∷ thenIn told .amount ∷ thenIn told .number ∷ replicate 3 0 ≡ padded (kindOf told ∷ t ∷ a ∷ s ∷ thenNumbers told)
   -- the widths make up the whole length
-  pub whole : total (widthsOf (rowOf entryRows (kindOf told))) ≡ lengthOfTold told
+  pub whole : total (widthsOf (rowOfKind entryRows (kindOf told))) ≡ lengthOfTold told
   -- which is the plain one
   pub length′ : lengthOfTold told ≡ lengthIn told
   -- the kind is a byte, and what fits its widths fits its bytes, both ways
   pub kind : kindOf told < 256 ^ 1
-  pub bounds : Fit (thenOf (rowOf entryRows (kindOf told))) (thenNumbers told)
+  pub bounds : Fit (thenOf (rowOfKind entryRows (kindOf told))) (thenNumbers told)
       → (amountIn told < 256 ^ 4) × (weighedIn told < 256 ^ 2) × (balanceIn told < 256 ^ 4)
-  pub fits : amountIn told < 256 ^ 4 → weighedIn told < 256 ^ 2 → balanceIn told < 256 ^ 4 → Fit (thenOf (rowOf entryRows (kindOf told))) (thenNumbers told)
+  pub fits : amountIn told < 256 ^ 4 → weighedIn told < 256 ^ 2 → balanceIn told < 256 ^ 4 → Fit (thenOf (rowOfKind entryRows (kindOf told))) (thenNumbers told)
 
 pub shaped : (told : Told) → Shaped told
-unfolding rowOf entryRows lengthOfTold toldBy
+unfolding rowOfKind entryRows lengthOfTold toldBy
 shaped (Accepted e n) =
     record {
       numbers = rw (event-is e);

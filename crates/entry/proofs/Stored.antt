@@ -16,7 +16,7 @@ use Rattle.events.specs.declared.Event.the-variants.{Open}
 use Rattle.account.specs.declared.Told.{Told}
 use Rattle.account.specs.declared.Told.the-variants.{Accepted}
 use Rattle.account.specs.declared.Entry.{Entry}
-use Rattle.layout.specs.Fields.{rowOf, widthsOf, written}
+use Rattle.layout.specs.Fields.{rowOfKind, widthsOf, written}
 use Rattle.layout.specs.Shapes.{bytesIn, padded, shapeOf}
 use Rattle.layout.proofs.Stores.{sets-more}
 use Rattle.layout.proofs.Fields.{length-written}
@@ -28,7 +28,7 @@ use Rattle.entry.proofs.Shapes.{rows-hold, shaped}
 pub length-entry : (account : ℕ) (e : Entry) → length (bytesOfEntry account e) ≡ lengthOfTold (e .told)
 unfolding bytesOfEntry
 length-entry account e =
-    length-written (widthsOf (rowOf entryRows (kindOf (e .told)))) (numbersOf account e) (rw (shaped (e .told) .paired)) ∙ shaped (e .told) .whole
+    length-written (widthsOf (rowOfKind entryRows (kindOf (e .told)))) (numbersOf account e) (rw (shaped (e .told) .paired)) ∙ shaped (e .told) .whole
 
 pub length-entries : (account : ℕ) (es : List Entry) → length (bytesOfEntries account es) ≡ wholesOf es
 unfolding bytesOfEntries wholesOf
@@ -46,11 +46,11 @@ wholes-append [] ys = sym (zero-add (wholesOf ys))
 wholes-append (x ∷ xs) ys = rw (add-assoc, wholes-append xs ys)
 
 -- stored by the row of its kind, places behind it and all, an entry is its bytes
-pub row-bytes : (account : ℕ) (e : Entry) → written (map bytesIn (shapeOf (rowOf entryRows (kindOf (e .told))) .widths)) (padded (numbersOf account e)) ≡ bytesOfEntry account e
+pub row-bytes : (account : ℕ) (e : Entry) → written (map bytesIn (shapeOf (rowOfKind entryRows (kindOf (e .told))) .widths)) (padded (numbersOf account e)) ≡ bytesOfEntry account e
 unfolding bytesOfEntry lengthOfTold
 row-bytes account e =
     let told = e .told in
-    let found = rowOf entryRows (kindOf told) in
+    let found = rowOfKind entryRows (kindOf told) in
     let whole : 0 < lengthOfTold told = rw (← shaped told .whole) (omega arith) in
     rw (found-holds entryRows (kindOf told) rows-hold whole .widths) (padded-written (widthsOf found) (numbersOf account e) (rw (shaped told .paired)))
 

@@ -9,7 +9,7 @@ use lib.ListN.{length, getD, drop}
 use Rattle.account.specs.declared.Entry.{Entry}
 use Rattle.account.specs.declared.Entries.{Entries}
 use Rattle.layout.specs.Number.{numberAt}
-use Rattle.layout.specs.Fields.{Row, rowOf, widthsOf, numbersAt, lastAccount}
+use Rattle.layout.specs.Fields.{KindRow, rowOfKind, widthsOf, numbersAt, lastAccount}
 use Rattle.layout.specs.Answers.{Wrote, wroteOver, refusedWith}
 use Rattle.entry.specs.declared.EntryReading.{EntryReading}
 use Rattle.entry.specs.declared.EntryReading.the-variants.{Found, Nothing}
@@ -52,10 +52,10 @@ readNumbers whole numbers =
     (cond (thenFits (drop 4 numbers)) (Found (entryOf numbers) (getD numbers 2 0) whole) Nothing)
 
 -- a kind that is not 17 to 22, or an entry that is not whole, is none
-abbrev pub readKind : Option Row → (bytes : List ℕ) → EntryReading
+abbrev pub readKind : Option KindRow → (bytes : List ℕ) → EntryReading
 readKind none bytes = Nothing
 readKind (some r) bytes = cond (ltb (length bytes) (r .whole)) Nothing (readNumbers (r .whole) (numbersAt (widthsOf (some r)) bytes 0))
 
 -- the reader of one entry; bytes behind it play no part (9.6)
 unfoldable pub readOf : (bytes : List ℕ) → EntryReading
-readOf bytes = readKind (rowOf entryRows (numberAt bytes 0 1)) bytes
+readOf bytes = readKind (rowOfKind entryRows (numberAt bytes 0 1)) bytes

@@ -10,18 +10,18 @@ use Rattle.account.specs.declared.Told.{Told}
 use Rattle.account.specs.declared.Told.the-variants.{Accepted, Rejected, Held, Noted, Applied, Dropped}
 use Rattle.account.specs.declared.Entry.{Entry}
 use Rattle.account.specs.declared.Entries.{Entries}
-use Rattle.layout.specs.Fields.{Row, row, rowOf, wholeOf, widthsOf, written}
+use Rattle.layout.specs.Fields.{KindRow, kindRow, rowOfKind, wholeOf, widthsOf, written}
 use Rattle.events.specs.Kinds.{eventKind, amountOf, eventOf}
 
 -- the table: kind, whole length, and the widths of what follows the heading
-unfoldable pub entryRows : List Row
+unfoldable pub entryRows : List KindRow
 entryRows =
-    row 17 18 (1 ∷ 4 ∷ 2 ∷ []) ∷
-    row 18 18 (1 ∷ 4 ∷ 2 ∷ []) ∷
-    row 19 18 (1 ∷ 4 ∷ 2 ∷ []) ∷
-    row 20 11 [] ∷
-    row 21 20 (1 ∷ 4 ∷ 4 ∷ []) ∷
-    row 22 16 (1 ∷ 4 ∷ []) ∷
+    kindRow 17 18 (1 ∷ 4 ∷ 2 ∷ []) ∷
+    kindRow 18 18 (1 ∷ 4 ∷ 2 ∷ []) ∷
+    kindRow 19 18 (1 ∷ 4 ∷ 2 ∷ []) ∷
+    kindRow 20 11 [] ∷
+    kindRow 21 20 (1 ∷ 4 ∷ 4 ∷ []) ∷
+    kindRow 22 16 (1 ∷ 4 ∷ []) ∷
     []
 
 abbrev pub kindOf : Told → ℕ
@@ -47,10 +47,10 @@ numbersOf account e = kindOf (e .told) ∷ e .transaction ∷ account ∷ e .sec
 
 -- an entry's bytes; of a number of outcomes above 65,535, which no call gives, the lowest two bytes
 unfoldable pub bytesOfEntry : (account : ℕ) → Entry → List ℕ
-bytesOfEntry account e = written (widthsOf (rowOf entryRows (kindOf (e .told)))) (numbersOf account e)
+bytesOfEntry account e = written (widthsOf (rowOfKind entryRows (kindOf (e .told)))) (numbersOf account e)
 
 unfoldable pub lengthOfTold : Told → ℕ
-lengthOfTold told = wholeOf (rowOf entryRows (kindOf told))
+lengthOfTold told = wholeOf (rowOfKind entryRows (kindOf told))
 
 -- the entries of a call, one after the other
 unfoldable pub bytesOfEntries : (account : ℕ) → List Entry → List ℕ

@@ -15,7 +15,7 @@ use Rattle.account.specs.declared.Told.{Told}
 use Rattle.account.specs.declared.Told.the-variants.{Accepted, Rejected, Held, Noted, Applied, Dropped}
 use Rattle.account.specs.declared.Entry.{Entry}
 use Rattle.account.specs.declared.Entries.{Entries}
-use Rattle.layout.specs.Fields.{rowOf, wholeOf}
+use Rattle.layout.specs.Fields.{rowOfKind, wholeOf}
 use Rattle.events.specs.Kinds.{amountOf}
 use Rattle.layout.specs.Plain.{twoAt, fourAt, twoOf, fourOf}
 use Rattle.layout.specs.Answers as Writing′
@@ -61,7 +61,7 @@ abbrev pub kindLength : (kind : ℕ) → ℕ
 kindLength kind = cond (leb kind 19) 18 (cond (eqb kind 20) 11 (cond (eqb kind 21) 20 16))
 
 abbrev pub LengthsPlain : Type 0
-LengthsPlain = (kind : ℕ) → wholeOf (rowOf entryRows kind) ≡ cond (leb 17 kind && leb kind 22) (kindLength kind) 0
+LengthsPlain = (kind : ℕ) → wholeOf (rowOfKind entryRows kind) ≡ cond (leb 17 kind && leb kind 22) (kindLength kind) 0
 
 abbrev pub lengthIn : Told → ℕ
 lengthIn (Accepted e n) = 18

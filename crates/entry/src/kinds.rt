@@ -1,6 +1,6 @@
 // The table of entry kinds, and an entry as a row of numbers.
 ghost use mathlib.Core.Path.{_≡_};
-ghost use Rattle.layout.specs.Fields.{rowOf};
+ghost use Rattle.layout.specs.Fields.{rowOfKind};
 ghost use Rattle.layout.specs.Shapes.{padded, shapeOf};
 ghost use Rattle.entry.specs.Bytes.{entryRows, kindOf, numbersOf, toldBy};
 ghost use Rattle.entry.specs.Numbers.{thenIn, withEvent};
@@ -11,7 +11,7 @@ use layout::Shape;
 
 // The table of kinds: kind, transaction, account, second; then event kind and amount; then outcomes weighed, or balance.
 pub(crate) fn shape_of(kind: u8) -> Shape
-    ensures { λ r. ⌜ r ≡ shapeOf (rowOf entryRows kind) ⌝ }
+    ensures { λ r. ⌜ r ≡ shapeOf (rowOfKind entryRows kind) ⌝ }
 {
     match kind {
         17 => VOTE,
