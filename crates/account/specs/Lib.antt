@@ -6,7 +6,6 @@ pub mod Table
 pub mod Clauses
 pub mod Known
 pub mod Steps
-pub mod Tests
 pub mod Promises
 pub mod InOrderExactly
 pub mod Forms

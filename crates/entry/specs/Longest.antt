@@ -9,6 +9,7 @@ use lib.Dec.{ltb}
 use lib.ListN.{length}
 use Rattle.rule.specs.Lists.{every}
 use Rattle.rule.specs.Rule as rule
+use Rattle.rule.specs.Tests.{test, firstOf}
 use Rattle.rule.specs.Call as call
 use Rattle.rule.specs.InOrder.{isInOrder}
 use Rattle.rule.specs.Written.{Writes}
@@ -22,7 +23,7 @@ use Rattle.filing.specs.declared.Told.the-variants.{Voted, Noted, Applied, Drop
 use Rattle.filing.specs.declared.Entry.{Entry}
 use Rattle.filing.specs.Slots.{RuleSlot, places, blankFiled}
 use Rattle.filing.specs.Entries.{RuleEntry, entriesOf}
-use Rattle.layout.specs.Answers.{saidOfWriting, test, firstOf}
+use Rattle.layout.specs.Answers.{saidOfWriting}
 use Rattle.entry.specs.Bytes.{bytesOfEntries, wholesOf, listOf}
 use Rattle.entry.specs.Answers.{writeOf}
 

@@ -5,8 +5,9 @@ use mathlib.Core.Path.{_≡_}
 use mathlib.Core.List.{List, [], _∷_}
 use lib.Dec.{ltb}
 use lib.ListN.{length, take}
+use Rattle.rule.specs.Tests.{test, firstOf}
 use Rattle.filing.specs.declared.Entries.{Entries}
-use Rattle.layout.specs.Answers.{saidOfWriting, test, firstOf, Stays}
+use Rattle.layout.specs.Answers.{saidOfWriting, Stays}
 use Rattle.entry.specs.declared.EntryReading.{EntryReading}
 use Rattle.entry.specs.Answers as Answers′
 use Rattle.entry.specs.Answers.{writeOf}
