@@ -6,4 +6,5 @@ pub mod Shapes
 pub mod Tables
 pub mod Answers
 pub mod Plain
+pub mod Heading
 pub mod Forms

@@ -1,5 +1,6 @@
 pub mod Number
 pub mod Fields
+pub mod Heading
 pub mod Shapes
 pub mod Answers
 pub mod Inverse

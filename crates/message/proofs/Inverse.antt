@@ -3,7 +3,7 @@
 -- Assumes nothing.
 use Prim.Native.Nat.{ℕ, _+_, _≤_, _<_, _^_}
 use native.Mathlib.Omega.{arith}
-use mathlib.Core.Path.{_≡_, refl, ap, sym, _∙_}
+use mathlib.Core.Path.{_≡_, refl, ap, sym, subst, _∙_}
 use mathlib.Core.Bool.{Bool, true, false, cond}
 use mathlib.Core.List.{List, [], _++_}
 use mathlib.Core.Option.{Option, none, some}
@@ -11,11 +11,13 @@ use borrow.Author.Tests.{ltb-false}
 use lib.Dec.{eqb, ltb, lit<}
 use lib.ListN.{length, getD, take, length-append}
 use Rattle.layout.specs.Number.{numberAt, AreBytes}
-use Rattle.layout.specs.Fields.{Row, rowOf, wholeOf, thenOf, widthsOf, numbersAt, total, lastAccount}
+use Rattle.layout.specs.Fields.{KindRow, rowOfKind, wholeOf, thenOf, widthsOf, numbersAt, total, lastAccount}
 use Rattle.events.specs.Kinds.{eventOf}
+use Rattle.layout.specs.Heading.{filedFrom, FiledFits}
 use Rattle.layout.specs.Inverse.{Fit}
 use Rattle.layout.proofs.Numbers.{numberAt-fits}
-use Rattle.layout.proofs.Fields.{fit-heading, numbersAt-written, written-numbersAt}
+use Rattle.layout.proofs.Fields.{numbersAt-written, written-numbersAt}
+use Rattle.layout.proofs.Heading.{fit-heading, filed-fits}
 use Rattle.layout.proofs.Tables.{present, unknown}
 use Rattle.layout.proofs.Shapes.{found-holds}
 use Rattle.message.specs.declared.Message.{Message}
@@ -31,13 +33,13 @@ use Rattle.message.proofs.Writer.{length-message}
 pub reads-written : ReadsWritten
 unfolding numbersAt bytesOfMessage lengthOfMessage
 reads-written m after p =
-    let found = rowOf messages (kindOf m) in
+    let found = rowOfKind messages (kindOf m) in
     let bytes = bytesOfMessage m ++ after in
     let h = headingOf m in
     let n : length bytes ≡ lengthOfMessage m + length after = rw (length-append, length-message m) in
     let z : 0 < lengthOfMessage m = rw (← shaped m .whole) (omega arith) in
     let fit : Fit (widthsOf found) (numbersOf m) =
-    fit-heading (kindOf m) (h .transaction) (h .account) (h .second) (shaped m .kind) (p .transaction) (p .account) (p .second) (shaped m .amount (p .amount)) in
+    fit-heading (kindOf m) (h .transaction) (h .account) (h .filed) (shaped m .kind) (p .transaction) (p .account) (p .filed) (shaped m .amount (p .amount)) in
     let e : numbersAt (widthsOf found) bytes 0 ≡ numbersOf m = numbersAt-written [] after fit in
     let k : kindOf m ≡ numberAt bytes 0 1 = sym (ap (λ (ns : List ℕ). getD ns 0 0) e) in
     rest bytes (kindOf m) (lengthOfMessage m) (λ h. absurd (omega arith)) k refl
@@ -45,7 +47,7 @@ reads-written m after p =
     ∙ rw (shaped m .numbers)
 
 -- what a message that was read says of the row by which it was read
-pub record Taken (found : Option Row) (bytes : List ℕ) (m : Message) (whole : ℕ) : Type 0 where
+pub record Taken (found : Option KindRow) (bytes : List ℕ) (m : Message) (whole : ℕ) : Type 0 where
   pub positive : 0 < wholeOf found
   pub enough : wholeOf found ≤ length bytes
   pub account : getD (numbersAt (widthsOf found) bytes 0) 2 0 ≤ lastAccount
@@ -61,7 +63,7 @@ not-refused : (b : Bool) (number : ℕ) (next : Reading) (m : Message) (whole : 
 not-refused true number next m whole e = absurd (refused-is-none number m whole e)
 not-refused false number next m whole e = (refl, e)
 
-by-row : (found : Option Row) (bytes : List ℕ) (m : Message) (whole : ℕ) → 0 < wholeOf found → readKind found bytes ≡ Reading′.Message m whole
+by-row : (found : Option KindRow) (bytes : List ℕ) (m : Message) (whole : ℕ) → 0 < wholeOf found → readKind found bytes ≡ Reading′.Message m whole
     → Taken found bytes m whole
 by-row none bytes m whole p e = absurd (omega arith)
 by-row (some r) bytes m whole p e =
@@ -76,40 +78,40 @@ by-row (some r) bytes m whole p e =
       length′ = cc (t .1);
     }
 
-pub taken-of : (bytes : List ℕ) (m : Message) (whole : ℕ) → readOf bytes ≡ Reading′.Message m whole → Taken (rowOf messages (numberAt bytes 0 1)) bytes m whole
+pub taken-of : (bytes : List ℕ) (m : Message) (whole : ℕ) → readOf bytes ≡ Reading′.Message m whole → Taken (rowOfKind messages (numberAt bytes 0 1)) bytes m whole
 unfolding readOf messages
 taken-of bytes m whole e =
     let kind = numberAt bytes 0 1 in
-    let s = not-refused (eqb (length bytes) 0) 1 (readKind (rowOf messages kind) bytes) m whole e in
-    let p : wholeOf (rowOf messages kind) ≡ 0 → ⊥ = λ z. refused-is-none 2 m whole (rw (unknown messages kind (omega arith) z) at (s .1)) in
-    by-row (rowOf messages kind) bytes m whole (omega arith) (s .1)
+    let s = not-refused (eqb (length bytes) 0) 1 (readKind (rowOfKind messages kind) bytes) m whole e in
+    let p : wholeOf (rowOfKind messages kind) ≡ 0 → ⊥ = λ z. refused-is-none 2 m whole (rw (unknown messages kind (omega arith) z) at (s .1)) in
+    by-row (rowOfKind messages kind) bytes m whole (omega arith) (s .1)
 
 -- the numbers that were read are those of the message
-numbers-row : (bytes : List ℕ) (kind : ℕ) → kind ≡ numberAt bytes 0 1 → 0 < wholeOf (rowOf messages kind)
-    → numbersOf (messageOf (numbersAt (widthsOf (rowOf messages kind)) bytes 0)) ≡ numbersAt (widthsOf (rowOf messages kind)) bytes 0
-unfolding rowOf messages numbersAt messageBy eventOf
+numbers-row : (bytes : List ℕ) (kind : ℕ) → kind ≡ numberAt bytes 0 1 → 0 < wholeOf (rowOfKind messages kind)
+    → numbersOf (messageOf (numbersAt (widthsOf (rowOfKind messages kind)) bytes 0)) ≡ numbersAt (widthsOf (rowOfKind messages kind)) bytes 0
+unfolding rowOfKind messages numbersAt messageBy eventOf
 numbers-row bytes kind k p =
     present
     (λ (k : ℕ). k ≡ numberAt bytes 0 1
-    → numbersOf (messageOf (numbersAt (widthsOf (rowOf messages k)) bytes 0)) ≡ numbersAt (widthsOf (rowOf messages k)) bytes 0)
+    → numbersOf (messageOf (numbersAt (widthsOf (rowOfKind messages k)) bytes 0)) ≡ numbersAt (widthsOf (rowOfKind messages k)) bytes 0)
     messages kind
     ((λ e. rw (← e)), ((λ e. rw (← e)), ((λ e. rw (← e)), ((λ e. rw (← e)), ((λ e. rw (← e)), ((λ e. rw (← e)), tt))))))
     p k
 
-amount-row : (bytes : List ℕ) (kind : ℕ) → AreBytes bytes → 0 < wholeOf (rowOf messages kind)
-    → getD (numbersAt (thenOf (rowOf messages kind)) bytes 11) 0 0 < 256 ^ 4
-unfolding rowOf messages numbersAt
+amount-row : (bytes : List ℕ) (kind : ℕ) → AreBytes bytes → 0 < wholeOf (rowOfKind messages kind)
+    → getD (numbersAt (thenOf (rowOfKind messages kind)) bytes 11) 0 0 < 256 ^ 4
+unfolding rowOfKind messages numbersAt
 amount-row bytes kind b p =
     let n = numberAt-fits 4 11 bytes b in
     present
-    (λ (k : ℕ). getD (numbersAt (thenOf (rowOf messages k)) bytes 11) 0 0 < 256 ^ 4)
+    (λ (k : ℕ). getD (numbersAt (thenOf (rowOfKind messages k)) bytes 11) 0 0 < 256 ^ 4)
     messages kind (n, (n, (n, (lit< tt, (lit< tt, (lit< tt, tt)))))) p
 
 pub writes-read : WritesRead
 unfolding numbersAt bytesOfMessage lengthOfMessage
 writes-read bytes m whole b e =
     let kind = numberAt bytes 0 1 in
-    let found = rowOf messages kind in
+    let found = rowOfKind messages kind in
     let t = taken-of bytes m whole e in
     let numbers : numbersOf m ≡ numbersAt (widthsOf found) bytes 0 = rw (t .message) at (numbers-row bytes kind refl (t .positive)) in
     let number : (i : ℕ) → getD (numbersOf m) i 0 ≡ getD (numbersAt (widthsOf found) bytes 0) i 0 = λ i. ap (λ (ns : List ℕ). getD ns i 0) numbers in
@@ -124,7 +126,7 @@ writes-read bytes m whole b e =
           record {
             transaction = rw (number 1) (numberAt-fits 4 1 bytes b);
             account = rw (number 2) (t .account);
-            second = rw (number 3) (numberAt-fits 4 7 bytes b);
+            filed = subst FiledFits (sym (ap filedFrom numbers)) (filed-fits bytes b);
             amount = rw (shaped m .amounts, number 4) (amount-row bytes kind b (t .positive));
           };
     }

@@ -12,15 +12,15 @@ use Rattle.rule.specs.Demand as rule
 use Rattle.events.specs.declared.Event.{Event}
 use Rattle.events.specs.declared.Event.the-variants.{Open}
 use Rattle.events.specs.declared.Life.the-variants.{New}
-use Rattle.account.specs.declared.Decision.the-variants.{Undecided}
-use Rattle.account.specs.declared.Slot.{Slot}
+use Rattle.filing.specs.declared.Decision.the-variants.{Undecided}
+use Rattle.filing.specs.declared.Slot.{Slot}
 use Rattle.account.specs.declared.Account.{Account}
 use Rattle.events.specs.declared.State.{State}
-use Rattle.account.specs.Panel.{panel}
+use Rattle.account.specs.First.{panel}
 use Rattle.account.specs.Table.{TableHolds, OutcomesOfTheTable}
 use Rattle.account.specs.Places.{RuleSlot, RuleAccount, listsOf, accountOf}
-use Rattle.account.specs.InOrder.{inOrderOf}
-use Rattle.account.specs.Steps.{entryOf, toldOf}
+use Rattle.account.specs.First.{inOrderOf}
+use Rattle.account.specs.Steps.{entryOf, shownBy}
 use Rattle.layout.specs.Number.{AreBytes}
 use Rattle.message.specs.declared.Message.{Message}
 use Rattle.message.specs.declared.Reading.the-variants as Reading′
@@ -29,8 +29,10 @@ use Rattle.message.specs.Inverse.{ReadsWritten, WritesRead}
 use Rattle.message.specs.Refusals.{ReaderRefuses, WriterRefuses}
 use Rattle.entry.specs.Bytes.{bytesOfEntries}
 use Rattle.register.specs.declared.Register.{Register}
-use Rattle.register.specs.Register.{freshRegister, ruleMessage, outlookIn}
-use Rattle.register.specs.Call.{Result, refusalOf, consumedOf, writtenOf, callOf}
+use Rattle.register.specs.Register.{ruleMessage}
+use Rattle.register.specs.First.{freshRegister, outlookIn}
+use Rattle.register.specs.Call.{Result, refusalOf, consumedOf, writtenOf}
+use Rattle.register.specs.First.{callOf}
 use Rattle.register.specs.Sequence.{Input, Exchange, after, exchanges, seenBy, EachOnlyEntries, OneMoreCall, Sight}
 use Rattle.register.specs.Seconds.{OtherSeconds, SameExchanges}
 use Rattle.register.specs.Refusals.{accountIn, standingAt, CallRefuses, OutlookTells}
@@ -39,9 +41,9 @@ use Rattle.register.specs.Unchanged.{Refusal, Taking}
 
 -- what a call gives, by what its answer says
 pub record Gives (result : Result) (refusal : Option ℕ) (consumed written : ℕ) (register : Register) (buffer : List ℕ) : Type 0 where
-  pub refusal′ : refusalOf (result .answer) ≡ refusal
-  pub consumed′ : consumedOf (result .answer) ≡ consumed
-  pub written′ : writtenOf (result .answer) ≡ written
+  pub refusal′ : refusalOf (result .reply) ≡ refusal
+  pub consumed′ : consumedOf (result .reply) ≡ consumed
+  pub written′ : writtenOf (result .reply) ≡ written
   pub register′ : result .register ≡ register
   pub buffer′ : result .buffer ≡ buffer
 
@@ -74,8 +76,8 @@ pub record Demand1 : Type 0 where
   -- which calls are refused, and with which number;
   pub exactly : CallRefuses
   -- what a refusal leaves, and what a message that is taken does;
-  pub refused : (r : Register) (bytes buffer : List ℕ) (n : ℕ) → refusalOf (callOf r bytes buffer .answer) ≡ some n → Refusal r bytes buffer n
-  pub taken : (r : Register) (bytes buffer : List ℕ) → refusalOf (callOf r bytes buffer .answer) ≡ none → Taking r bytes buffer
+  pub refused : (r : Register) (bytes buffer : List ℕ) (n : ℕ) → refusalOf (callOf r bytes buffer .reply) ≡ some n → Refusal r bytes buffer n
+  pub taken : (r : Register) (bytes buffer : List ℕ) → refusalOf (callOf r bytes buffer .reply) ≡ none → Taking r bytes buffer
   -- what the outcome question answers;
   pub asked : OutlookTells
   -- and when the message reader and the message writer refuse by themselves
@@ -131,5 +133,5 @@ pub record Demand3 : Type 0 where
   pub whole : (inputs : List Input) → ByteStrings inputs → EachOnlyEntries (exchanges freshRegister inputs)
   -- every account is in order, so that 5 is given neither by a call nor by the outcome question
   pub order : (inputs : List Input) (i : ℕ) → i < 16 → inOrderOf (standingAt (after freshRegister inputs) i) ≡ true
-  pub never-five : (inputs : List Input) (bytes buffer : List ℕ) → refusalOf (callOf (after freshRegister inputs) bytes buffer .answer) ≡ some 5 → ⊥
-  pub never-asked-five : (inputs : List Input) (i n : ℕ) → toldOf (outlookIn (after freshRegister inputs) i n) .refusal ≡ some 5 → ⊥
+  pub never-five : (inputs : List Input) (bytes buffer : List ℕ) → refusalOf (callOf (after freshRegister inputs) bytes buffer .reply) ≡ some 5 → ⊥
+  pub never-asked-five : (inputs : List Input) (i n : ℕ) → shownBy (outlookIn (after freshRegister inputs) i n) .refusal ≡ some 5 → ⊥

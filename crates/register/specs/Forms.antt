@@ -4,7 +4,7 @@ use Prim.Native.Nat.{ℕ}
 use mathlib.Core.Path.{_≡_}
 use mathlib.Core.List.{List, [], _∷_}
 use mathlib.Core.Option.{none, some}
-use Rattle.register.specs.declared.Answer.the-variants.{Refused, Taken}
+use Rattle.register.specs.declared.Reply.the-variants.{Refused, Taken}
 use Rattle.register.specs.Call.{refusalOf, consumedOf, writtenOf}
 use Rattle.register.specs.Run.{runOf, exportOf}
 

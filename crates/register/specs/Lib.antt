@@ -1,6 +1,7 @@
 pub mod Register
 pub mod Call
-pub mod Named
+pub mod First
+pub mod Numbers
 pub mod Refusals
 pub mod Unchanged
 pub mod Own

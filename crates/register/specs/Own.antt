@@ -11,7 +11,8 @@ use Rattle.layout.specs.Number.{AreBytes}
 use Rattle.message.specs.declared.Message.the-variants.{Request, Commit, Abort}
 use Rattle.register.specs.declared.Register.{Register}
 use Rattle.register.specs.Register.{ruleMessage}
-use Rattle.register.specs.Call.{callOf, refusalOf, writtenOf}
+use Rattle.register.specs.Call.{refusalOf, writtenOf}
+use Rattle.register.specs.First.{callOf}
 
 -- a message of kind `getD bytes 0 0`, and the entries that were written for it
 pub record OwnEntry (bytes : List ℕ) (written : ℕ) (entries : List ℕ) : Type 0 where
@@ -31,8 +32,8 @@ pub record OwnEntry (bytes : List ℕ) (written : ℕ) (entries : List ℕ) : Ty
 -- of every message that is taken
 abbrev pub EachOwnEntry : Type 0
 EachOwnEntry =
-    (r : Register) (bytes buffer : List ℕ) → AreBytes bytes → refusalOf (callOf r bytes buffer .answer) ≡ none
-    → OwnEntry bytes (writtenOf (callOf r bytes buffer .answer)) (callOf r bytes buffer .buffer)
+    (r : Register) (bytes buffer : List ℕ) → AreBytes bytes → refusalOf (callOf r bytes buffer .reply) ≡ none
+    → OwnEntry bytes (writtenOf (callOf r bytes buffer .reply)) (callOf r bytes buffer .buffer)
 
 -- a message as the rule has it: its own transaction, its own second, its own event
 pub record Brings (t i s : ℕ) : Type 0 where

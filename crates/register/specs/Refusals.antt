@@ -13,16 +13,18 @@ use Rattle.rule.specs.Lists.{some-of, keep}
 use Rattle.rule.specs.Outcome.{bit}
 use Rattle.rule.specs.Exact.{chosenState}
 use Rattle.events.specs.declared.State.{State}
-use Rattle.account.specs.declared.Slot.{Slot}
+use Rattle.filing.specs.declared.Slot.{Slot}
 use Rattle.account.specs.declared.Account.{Account}
-use Rattle.account.specs.Panel.{panel}
+use Rattle.account.specs.First.{panel}
 use Rattle.account.specs.Places.{slotOf}
 use Rattle.account.specs.InOrder.{isUndecided, inOrderOf}
-use Rattle.account.specs.Steps.{Told′, toldOf}
+use Rattle.account.specs.Steps.{Shown, shownBy}
 use Rattle.layout.specs.Answers.{Test, test, firstOf}
 use Rattle.register.specs.declared.Register.{Register}
-use Rattle.register.specs.Register.{nowhere, outlookIn}
-use Rattle.register.specs.Call.{refusalOf, callOf}
+use Rattle.register.specs.Register.{nowhere}
+use Rattle.register.specs.First.{outlookIn}
+use Rattle.register.specs.Call.{refusalOf}
+use Rattle.register.specs.First.{callOf}
 
 -- a message's numbers by its bytes, highest byte first: transaction, account
 abbrev pub transactionIn : (bytes : List ℕ) → ℕ
@@ -78,7 +80,7 @@ callTests r bytes buffer =
 
 -- a call is refused with the number of the first test that holds, and not at all if none does
 abbrev pub CallRefuses : Type 0
-CallRefuses = (r : Register) (bytes buffer : List ℕ) → refusalOf (callOf r bytes buffer .answer) ≡ firstOf (callTests r bytes buffer)
+CallRefuses = (r : Register) (bytes buffer : List ℕ) → refusalOf (callOf r bytes buffer .reply) ≡ firstOf (callTests r bytes buffer)
 
 -- u: how many events in progress are undecided
 abbrev pub undecidedIn : Account → ℕ
@@ -94,7 +96,7 @@ outlookTests r i n =
     []
 
 -- what is told: the number of a refusal alone; else the state and how many undecided events are applied
-abbrev pub answeredAs : (refusal : Option ℕ) → State → (applied : ℕ) → Told′
+abbrev pub answeredAs : (refusal : Option ℕ) → State → (applied : ℕ) → Shown
 answeredAs (some number) s n = record { refusal = some number; state = none; applied = 0 }
 answeredAs none s n = record { refusal = none; state = some s; applied = n }
 
@@ -102,5 +104,5 @@ answeredAs none s n = record { refusal = none; state = some s; applied = n }
 abbrev pub OutlookTells : Type 0
 OutlookTells =
     (r : Register) (i n : ℕ)
-    → toldOf (outlookIn r i n)
+    → shownBy (outlookIn r i n)
     ≡ answeredAs (firstOf (outlookTests r i n)) (chosenState panel (map slotOf (progressIn (standingAt r i))) (bit n) (standingAt r i .state)) (ones n)

@@ -11,12 +11,12 @@ use Rattle.layout.specs.Number.{numberAt}
 use Rattle.layout.specs.Fields.{rowOf, wholeOf}
 use Rattle.message.specs.Bytes.{messages}
 use Rattle.register.specs.declared.Register.{Register}
-use Rattle.register.specs.declared.Answer.{Answer}
-use Rattle.register.specs.declared.Answer.the-variants.{Refused, Taken}
+use Rattle.register.specs.declared.Reply.{Reply}
+use Rattle.register.specs.declared.Reply.the-variants.{Refused, Taken}
 use Rattle.register.specs.declared.runs.Ran.{Ran}
 use Rattle.register.specs.declared.runs.Passed.{Passed}
-use Rattle.register.specs.Register.{freshRegister}
-use Rattle.register.specs.Call.{callOf}
+use Rattle.register.specs.First.{freshRegister}
+use Rattle.register.specs.First.{callOf}
 
 -- what a run gives: the four numbers, and the entry buffer, every byte of it
 pub record Run : Type 0 where
@@ -35,12 +35,12 @@ abbrev pub lengthAt : (bytes : List ℕ) → ℕ
 lengthAt bytes = wholeOf (rowOf messages (numberAt bytes 0 1))
 
 -- the number of a refusal; 0 says that there is none
-abbrev pub answerNumber : Answer → ℕ
-answerNumber (Refused n) = n
-answerNumber (Taken consumed written) = 0
+abbrev pub replyNumber : Reply → ℕ
+replyNumber (Refused n) = n
+replyNumber (Taken consumed written) = 0
 
 -- what a message comes to: the run stops at refusals 1 and 2, and passes over a message that got another
-abbrev pub passedOf : Answer → (whole : ℕ) → Passed
+abbrev pub passedOf : Reply → (whole : ℕ) → Passed
 passedOf (Taken consumed written) whole = record { refused = 0; consumed = consumed; written = written; stops = false }
 passedOf (Refused n) whole =
     cond (leb n 2) (record { refused = 1; consumed = 0; written = 0; stops = true }) (record { refused = 1; consumed = whole; written = 0; stops = false })
@@ -71,7 +71,7 @@ first passed buffer = record { counts = one passed; entries = take (passed .writ
 abbrev pub turnOf : (rest : Register → (bytes buffer : List ℕ) → Run) → Register → (bytes buffer : List ℕ) → Run
 turnOf rest r bytes buffer =
     let called = callOf r bytes buffer in
-    let passed = passedOf (called .answer) (lengthAt bytes) in
+    let passed = passedOf (called .reply) (lengthAt bytes) in
     let left = drop (passed .written) (called .buffer) in
     cond (eqb (length bytes) 0) (ended buffer)
     (joined (first passed (called .buffer)) (cond (passed .stops) (ended left) (rest (called .register) (drop (passed .consumed) bytes) left)))

@@ -8,9 +8,9 @@ use mathlib.Core.List.{List, [], _∷_, _++_}
 use lib.ListN.{length, take, drop}
 use Rattle.layout.specs.Number.{AreBytes}
 use Rattle.register.specs.declared.Register.{Register}
-use Rattle.register.specs.declared.Answer.{Answer}
-use Rattle.register.specs.declared.Answer.the-variants.{Refused, Taken}
-use Rattle.register.specs.Register.{freshRegister}
+use Rattle.register.specs.declared.Reply.{Reply}
+use Rattle.register.specs.declared.Reply.the-variants.{Refused, Taken}
+use Rattle.register.specs.First.{freshRegister}
 use Rattle.register.specs.Sequence.{Input, Exchange, exchanges}
 use Rattle.register.specs.Whole.{Whole}
 use Rattle.register.specs.Demands.{SerialPast}
@@ -21,34 +21,34 @@ pub data Calls : (bytes buffer : List ℕ) → List Input → List Exchange → 
   -- no byte is left
   ended : {buffer : List ℕ} → Calls [] buffer [] [] 0
   -- a message that is refused with 1 or 2 is the last
-  stopped : {bytes buffer : List ℕ} {x : Exchange} (n : ℕ) → 0 < length bytes → x .answer ≡ Refused n → (n ≡ 1) ⊎ (n ≡ 2)
+  stopped : {bytes buffer : List ℕ} {x : Exchange} (n : ℕ) → 0 < length bytes → x .reply ≡ Refused n → (n ≡ 1) ⊎ (n ≡ 2)
       → Calls bytes buffer (record { message = bytes; buffer = buffer } ∷ []) (x ∷ []) 0
   -- after any other refusal the message is skipped by its length, and the buffer is the same
   skipped : {bytes buffer : List ℕ} {x : Exchange} {inputs : List Input} {seen : List Exchange} {passed : ℕ} (n whole : ℕ)
-      → x .answer ≡ Refused n → 3 ≤ n → Whole bytes whole → Calls (drop whole bytes) buffer inputs seen passed
+      → x .reply ≡ Refused n → 3 ≤ n → Whole bytes whole → Calls (drop whole bytes) buffer inputs seen passed
       → Calls bytes buffer (record { message = bytes; buffer = buffer } ∷ inputs) (x ∷ seen) (whole + passed)
   -- the next message starts behind this one, and its entries behind these, in the buffer that the call left
   taken : {bytes buffer : List ℕ} {x : Exchange} {inputs : List Input} {seen : List Exchange} {passed : ℕ} (whole written : ℕ)
-      → x .answer ≡ Taken whole written → Whole bytes whole → Calls (drop whole bytes) (drop written (x .buffer)) inputs seen passed
+      → x .reply ≡ Taken whole written → Whole bytes whole → Calls (drop whole bytes) (drop written (x .buffer)) inputs seen passed
       → Calls bytes buffer (record { message = bytes; buffer = buffer } ∷ inputs) (x ∷ seen) (whole + passed)
 
 -- how many of the calls seen were refused
-abbrev pub refusals : Answer → ℕ
+abbrev pub refusals : Reply → ℕ
 refusals (Refused n) = 1
 refusals (Taken consumed written) = 0
 
 abbrev pub refusedAmong : List Exchange → ℕ
 refusedAmong [] = 0
-refusedAmong (x ∷ xs) = refusals (x .answer) + refusedAmong xs
+refusedAmong (x ∷ xs) = refusals (x .reply) + refusedAmong xs
 
 -- the entries of the calls seen, one after the other
-abbrev pub writtenPart : Answer → (buffer : List ℕ) → List ℕ
+abbrev pub writtenPart : Reply → (buffer : List ℕ) → List ℕ
 writtenPart (Refused n) buffer = []
 writtenPart (Taken consumed written) buffer = take written buffer
 
 abbrev pub entriesAmong : List Exchange → List ℕ
 entriesAmong [] = []
-entriesAmong (x ∷ xs) = writtenPart (x .answer) (x .buffer) ++ entriesAmong xs
+entriesAmong (x ∷ xs) = writtenPart (x .reply) (x .buffer) ++ entriesAmong xs
 
 -- a run's numbers, in the order in which a caller from outside gets them, and every byte of its buffer, by the calls seen
 pub record Sums (buffer : List ℕ) (seen : List Exchange) (passed : ℕ) (run : Run) : Type 0 where

@@ -7,7 +7,7 @@ use mathlib.Core.Logic.{_↔_}
 use mathlib.Core.List.{List, [], _∷_, _++_}
 use lib.ListN.{length, take, drop}
 use lib.Seq.{slice}
-use Rattle.account.specs.declared.Entry.{Entry}
+use Rattle.filing.specs.declared.Entry.{Entry}
 use Rattle.entry.specs.Bytes.{bytesOfEntry}
 use Rattle.register.specs.Call.{writtenOf}
 use Rattle.register.specs.Sequence.{Input, Exchange}
@@ -43,9 +43,9 @@ pub data SameEntries : List ℕ → List ℕ → Type 0 where
 
 -- the same answer, the same entries but for their seconds, and the rest of the buffers equal
 pub record SameExchange (x y : Exchange) : Type 0 where
-  pub answers : x .answer ≡ y .answer
-  pub entries : SameEntries (take (writtenOf (x .answer)) (x .buffer)) (take (writtenOf (y .answer)) (y .buffer))
-  pub rest : drop (writtenOf (x .answer)) (x .buffer) ≡ drop (writtenOf (y .answer)) (y .buffer)
+  pub answers : x .reply ≡ y .reply
+  pub entries : SameEntries (take (writtenOf (x .reply)) (x .buffer)) (take (writtenOf (y .reply)) (y .buffer))
+  pub rest : drop (writtenOf (x .reply)) (x .buffer) ≡ drop (writtenOf (y .reply)) (y .buffer)
 
 pub data SameExchanges : List Exchange → List Exchange → Type 0 where
   none-seen : SameExchanges [] []

@@ -11,10 +11,11 @@ use Rattle.rule.specs.Rule as rule
 use Rattle.rule.specs.Call as rule-call
 use Rattle.rule.specs.History as rule-history
 use Rattle.events.specs.declared.Event.{Event}
-use Rattle.account.specs.declared.Told.{Told}
-use Rattle.account.specs.declared.Told.the-variants.{Accepted, Rejected, Held, Noted, Applied, Dropped}
-use Rattle.account.specs.declared.Entry.{Entry}
-use Rattle.account.specs.Steps.{RuleEntry, entryOf}
+use Rattle.filing.specs.declared.Told.{Told}
+use Rattle.filing.specs.declared.Told.the-variants.{Voted, Noted, Applied, Dropped}
+use Rattle.filing.specs.declared.Entry.{Entry}
+use Rattle.filing.specs.declared.Filed.{Filed}
+use Rattle.filing.specs.Entries.{RuleEntry, weighingOf, entryOf}
 use Rattle.message.specs.declared.Message.{Message}
 use Rattle.message.specs.declared.Reading.{Reading}
 use Rattle.message.specs.declared.Reading.the-variants as Reading′
@@ -25,10 +26,11 @@ use Rattle.entry.specs.declared.EntryReading.the-variants.{Found, Nothing}
 use Rattle.entry.specs.Bytes.{bytesOfEntries}
 use Rattle.entry.specs.Answers as entry
 use Rattle.register.specs.declared.Register.{Register}
-use Rattle.register.specs.declared.Answer.{Answer}
-use Rattle.register.specs.declared.Answer.the-variants.{Refused, Taken}
+use Rattle.register.specs.declared.Reply.{Reply}
+use Rattle.register.specs.declared.Reply.the-variants.{Refused, Taken}
 use Rattle.register.specs.Register.{ruleMessage}
-use Rattle.register.specs.Call.{refusalOf, writtenOf, callOf}
+use Rattle.register.specs.Call.{refusalOf, writtenOf}
+use Rattle.register.specs.First.{callOf}
 use Rattle.register.specs.Refusals.{accountIn}
 
 -- what is handed to a call: the message bytes and the entry buffer
@@ -39,7 +41,7 @@ pub record Input : Type 0 where
 -- a call as it can be seen: the message bytes, the answer, and the buffer that it left
 pub record Exchange : Type 0 where
   pub message : List ℕ
-  pub answer : Answer
+  pub reply : Reply
   pub buffer : List ℕ
 
 -- the register after a sequence of calls, refused ones included
@@ -51,20 +53,18 @@ after r (x ∷ xs) = after (callOf r (x .message) (x .buffer) .register) xs
 abbrev pub exchanges : Register → List Input → List Exchange
 exchanges r [] = []
 exchanges r (x ∷ xs) =
-    record { message = x .message; answer = callOf r (x .message) (x .buffer) .answer; buffer = callOf r (x .message) (x .buffer) .buffer }
+    record { message = x .message; reply = callOf r (x .message) (x .buffer) .reply; buffer = callOf r (x .message) (x .buffer) .buffer }
     ∷ exchanges (callOf r (x .message) (x .buffer) .register) xs
 
 -- an entry as the rule has it
-abbrev pub toldAs : ℕ → ℕ → Told → RuleEntry
-toldAs t g (Accepted e n) = rule.voted rule.accept t g e n
-toldAs t g (Rejected e n) = rule.voted rule.reject t g e n
-toldAs t g (Held e n) = rule.voted rule.hold t g e n
+abbrev pub toldAs : ℕ → Filed → Told → RuleEntry
+toldAs t g (Voted e w) = rule.voted t g e (weighingOf w)
 toldAs t g Noted = rule.noted t g
 toldAs t g (Applied e b) = rule.applied t g e b
 toldAs t g (Dropped e) = rule.dropped t g e
 
 abbrev pub ruleEntry : Entry → RuleEntry
-ruleEntry e = toldAs (e .transaction) (e .second) (e .told)
+ruleEntry e = toldAs (e .transaction) (e .filed) (e .told)
 
 -- an entry that was read, and those of the bytes behind it; where there is none, the entries have ended
 abbrev pub readOn : (bytes : List ℕ) → (List ℕ → List RuleEntry) → EntryReading → List RuleEntry
@@ -81,28 +81,28 @@ abbrev pub entriesIn : List ℕ → List RuleEntry
 entriesIn bytes = entriesFrom (length bytes) bytes
 
 -- the answer to an account: the number of a refusal, or the entries that the buffer begins with
-abbrev pub answerIn : Answer → (buffer : List ℕ) → rule-call.Answer ℕ Event ℕ
+abbrev pub answerIn : Reply → (buffer : List ℕ) → rule-call.Answer Filed Event ℕ
 answerIn (Refused n) buffer = rule-call.refused n
 answerIn (Taken consumed written) buffer = rule-call.taken (entriesIn (take written buffer))
 
 -- an exchange as an account sees it: one whose message names it, and no other
-abbrev pub seenOf : ℕ → Answer → (buffer : List ℕ) → Reading → List (rule-history.Seen ℕ Event ℕ)
+abbrev pub seenOf : ℕ → Reply → (buffer : List ℕ) → Reading → List (rule-history.Seen Filed Event ℕ)
 seenOf i answer buffer (Reading′.Refused n) = []
 seenOf i answer buffer (Reading′.Message m consumed) =
     cond (eqb (headingOf m .account) i) (record { message = ruleMessage m; answer = answerIn answer buffer } ∷ []) []
 
 -- all exchanges as an account sees them
-abbrev pub seenBy : ℕ → List Exchange → List (rule-history.Seen ℕ Event ℕ)
+abbrev pub seenBy : ℕ → List Exchange → List (rule-history.Seen Filed Event ℕ)
 seenBy i [] = []
-seenBy i (x ∷ xs) = seenOf i (x .answer) (x .buffer) (message.readOf (x .message)) ++ seenBy i xs
+seenBy i (x ∷ xs) = seenOf i (x .reply) (x .buffer) (message.readOf (x .message)) ++ seenBy i xs
 
 -- the bytes that an exchange wrote
 abbrev pub writtenIn : Exchange → List ℕ
-writtenIn x = take (writtenOf (x .answer)) (x .buffer)
+writtenIn x = take (writtenOf (x .reply)) (x .buffer)
 
 -- they are all of the entries' bytes and nothing else: the entries read back from them, each under the account that the message names, have just these bytes
 abbrev pub OnlyEntries : Exchange → Type 0
-OnlyEntries x = refusalOf (x .answer) ≡ none → writtenIn x ≡ bytesOfEntries (accountIn (x .message)) (map entryOf (entriesIn (writtenIn x)))
+OnlyEntries x = refusalOf (x .reply) ≡ none → writtenIn x ≡ bytesOfEntries (accountIn (x .message)) (map entryOf (entriesIn (writtenIn x)))
 
 abbrev pub EachOnlyEntries : List Exchange → Type 0
 EachOnlyEntries [] = Unit {0}
@@ -115,7 +115,7 @@ pub record OneMoreCall (r : Register) (x : Input) (xs : List Input) : Type 0 whe
   pub none-seen : exchanges r [] ≡ []
   pub last-seen :
       let called = callOf (after r xs) (x .message) (x .buffer) in
-      exchanges r (xs ++ (x ∷ [])) ≡ exchanges r xs ++ (record { message = x .message; answer = called .answer; buffer = called .buffer } ∷ [])
+      exchanges r (xs ++ (x ∷ [])) ≡ exchanges r xs ++ (record { message = x .message; reply = called .reply; buffer = called .buffer } ∷ [])
 
 -- an account sees the exchanges whose messages name it, in their order, and no other
 pub record Sight (i : ℕ) (xs : List Exchange) (x : Exchange) : Type 0 where
@@ -123,8 +123,8 @@ pub record Sight (i : ℕ) (xs : List Exchange) (x : Exchange) : Type 0 where
   pub unread : (n : ℕ) → message.readOf (x .message) ≡ Reading′.Refused n → seenBy i (xs ++ (x ∷ [])) ≡ seenBy i xs
   pub another : (accountIn (x .message) ≡ i → ⊥) → seenBy i (xs ++ (x ∷ [])) ≡ seenBy i xs
   pub refused :
-      (m : Message) (consumed n : ℕ) → message.readOf (x .message) ≡ Reading′.Message m consumed → accountIn (x .message) ≡ i → refusalOf (x .answer) ≡ some n
+      (m : Message) (consumed n : ℕ) → message.readOf (x .message) ≡ Reading′.Message m consumed → accountIn (x .message) ≡ i → refusalOf (x .reply) ≡ some n
       → seenBy i (xs ++ (x ∷ [])) ≡ seenBy i xs ++ (record { message = ruleMessage m; answer = rule-call.refused n } ∷ [])
   pub taken :
-      (m : Message) (consumed : ℕ) → message.readOf (x .message) ≡ Reading′.Message m consumed → accountIn (x .message) ≡ i → refusalOf (x .answer) ≡ none
+      (m : Message) (consumed : ℕ) → message.readOf (x .message) ≡ Reading′.Message m consumed → accountIn (x .message) ≡ i → refusalOf (x .reply) ≡ none
       → seenBy i (xs ++ (x ∷ [])) ≡ seenBy i xs ++ (record { message = ruleMessage m; answer = rule-call.taken (entriesIn (writtenIn x)) } ∷ [])

@@ -1,11 +1,17 @@
 // The register: sixteen accounts, and its public calls (docs/REGISTER.md, 7 and 11). A message changes the account that it names, in its place.
 mod export;
-mod named;
+mod numbers;
 mod place;
 mod runs;
 
 use account::Account;
+use account::Answer;
 use account::Outlook;
+use account::Stepped;
+use filing::Entries;
+use layout::Writing;
+use message::Message;
+use message::Reading;
 pub use runs::Passed;
 pub use runs::Ran;
 pub use runs::passed_by;
@@ -13,23 +19,32 @@ pub use runs::refusal_of;
 pub use runs::run;
 ghost use mathlib.Core.Path.{_≡_};
 ghost use Prim.Native.Nat.{_<_};
-ghost use Rattle.register.specs.Register.{accountsOfRegister, freshRegister, withAccount, outlookIn};
-ghost use Rattle.register.specs.Call.{callOf};
+ghost use Rattle.account.specs.First.{stepOf};
+ghost use Rattle.register.specs.Register.{accountsOfRegister, withAccount, ruleMessage, notSent};
+ghost use Rattle.register.specs.declared.Reply.the-variants.{Refused};
+ghost use Rattle.register.specs.First.{freshRegister, sentOf, outlookIn, callOf};
 
 pub struct Register {
     pub accounts: [Account; Register::ACCOUNTS],
 }
 
-// What a call answers: the number of its refusal, or how many bytes the message had and how many bytes of entries were written.
-pub enum Answer {
+// What sending a message gives: the register that follows, the entries written, and the answer.
+pub struct Sent {
+    pub register: Register,
+    pub entries: Entries,
+    pub answer: Answer,
+}
+
+// What a call replies: the number of its refusal, or how many bytes the message had and how many bytes of entries were written.
+pub enum Reply {
     Refused(u8),
     Taken(usize, usize),
 }
 
-// What a call gives beside the buffer: the answer, and the register that follows.
+// What a call gives beside the buffer: the register that follows, and the reply.
 pub struct Called {
-    pub answer: Answer,
     pub register: Register,
+    pub reply: Reply,
 }
 
 impl Register {
@@ -45,18 +60,52 @@ impl Register {
         }
     }
 
-    // The call: the message that the bytes begin with is sent to the account that it names, and the entries are written to the beginning of the buffer.
+    // A message sent to the account that it names, as a value: refused, and the register is the same, or taken.
+    pub fn send(self, message: Message) -> Sent
+        ensures { λ r. ⌜ r ≡ sentOf self message ⌝ }
+    {
+        let number = numbers::account_of(message);
+        if layout::LAST_ACCOUNT < number {
+            return self.not_sent(Answer::Refused(3));
+        }
+        let at = number as usize;
+        let accounts = self.accounts;
+        let stepped = step(accounts[at], message);
+        let answer = stepped.answer;
+        let Answer::Taken = answer else {
+            return self.not_sent(answer);
+        };
+        let entries = stepped.entries;
+        Sent {
+            register: self.with_account(at, stepped.account),
+            entries,
+            answer,
+        }
+    }
+
+    // The call: the message that the bytes begin with is read and sent, and its entries are written to the beginning of the buffer.
     pub fn call(self, bytes: &[u8], buffer: &mut [u8]) -> Called
-        ensures { λ r. ⌜ (r .answer ≡ callOf self (now (bytes .entry)) (now (buffer .entry)) .answer) × (r .register ≡ callOf self (now (bytes .entry)) (now (buffer .entry)) .register) × (now (buffer .exit) ≡ callOf self (now (bytes .entry)) (now (buffer .entry)) .buffer) ⌝ }
+        ensures { λ r. ⌜ (r .reply ≡ callOf self (now (bytes .entry)) (now (buffer .entry)) .reply) × (r .register ≡ callOf self (now (bytes .entry)) (now (buffer .entry)) .register) × (now (buffer .exit) ≡ callOf self (now (bytes .entry)) (now (buffer .entry)) .buffer) ⌝ }
     {
         let reading = message::read_message(bytes);
-        let at = named::place_of(reading);
-        let accounts = self.accounts;
-        let answered = named::send(accounts[at], reading, buffer);
-        let answer = answered.answer;
+        let Reading::Message(message, consumed) = reading else {
+            return self.unchanged(numbers::refusal_of_reading(reading));
+        };
+        if buffer.len() < entry::LONGEST_CALL {
+            return self.unchanged(4);
+        }
+        let sent = self.send(message);
+        let answer = sent.answer;
+        let Answer::Taken = answer else {
+            return self.unchanged(numbers::refusal_of_step(answer));
+        };
+        let writing = entry::write_entries(sent.entries, numbers::account_of(message), buffer);
+        let Writing::Written(written) = writing else {
+            return self.unchanged(4);
+        };
         Called {
-            answer,
-            register: self.with_account(at, answered.account),
+            register: sent.register,
+            reply: Reply::Taken(consumed, written),
         }
     }
 
@@ -73,6 +122,27 @@ impl Register {
         named.outlook(number)
     }
 
+    // A message that is not taken: the same register, no entries.
+    fn not_sent(self, answer: Answer) -> Sent
+        ensures { λ r. ⌜ r ≡ notSent self answer ⌝ }
+    {
+        Sent {
+            register: self,
+            entries: Entries::NONE,
+            answer,
+        }
+    }
+
+    // A call that is refused: the same register.
+    fn unchanged(self, number: u8) -> Called
+        ensures { λ r. ⌜ (r .register ≡ self) × (r .reply ≡ Refused number) ⌝ }
+    {
+        Called {
+            register: self,
+            reply: Reply::Refused(number),
+        }
+    }
+
     // The register with another account at that number.
     fn with_account(self, at: usize, next: Account) -> Register
         requires { ⌜ at < accountsOfRegister ⌝ }
@@ -81,6 +151,26 @@ impl Register {
         let accounts = self.accounts;
         Register {
             accounts: place::placed(accounts, at, next),
+        }
+    }
+}
+
+// The step of an account that a message asks.
+fn step(account: Account, message: Message) -> Stepped
+    ensures { λ r. ⌜ r ≡ stepOf account (ruleMessage message) ⌝ }
+{
+    match message {
+        Message::Request(heading, event) => {
+            let filed = heading.filed;
+            account.request(heading.transaction, filed, event)
+        }
+        Message::Commit(heading) => {
+            let filed = heading.filed;
+            account.commit(heading.transaction, filed)
+        }
+        Message::Abort(heading) => {
+            let filed = heading.filed;
+            account.abort(heading.transaction, filed)
         }
     }
 }

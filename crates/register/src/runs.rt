@@ -1,10 +1,15 @@
 // A run of messages: they are sent to a fresh register one after the other, as the program does (docs/REGISTER.md, 11.5).
-use crate::Answer;
 use crate::Register;
-use crate::named;
+use crate::Reply;
+use crate::numbers;
+use account::Answer;
+use filing::Entries;
+use layout::Writing;
+use message::Message;
+use message::Reading;
 ghost use mathlib.Core.Path.{_≡_};
-ghost use Rattle.register.specs.declared.Answer.the-variants.{Refused};
-ghost use Rattle.register.specs.Run.{runOf, answerNumber, passedOf, one, added, Countable};
+ghost use Rattle.register.specs.declared.Reply.the-variants.{Refused};
+ghost use Rattle.register.specs.Run.{runOf, roomed, filedOf, Fitting, replyNumber, passedOf, one, added, Countable};
 
 // What a run comes to: messages met, messages refused, bytes of messages passed, bytes of entries written.
 pub struct Ran {
@@ -22,7 +27,8 @@ pub struct Passed {
     pub stops: bool,
 }
 
-// The run: each call gets the rest of the messages and the rest of the entry buffer.
+// The run: each message is read from the rest of the messages and sent to the account that it names, and its entries are written to the rest of the entry buffer.
+// Each kind has its own arm, in which the account is put in its place: of three steps made one value, the compiler takes the entries apart place by place.
 pub fn run(messages: &[u8], entries: &mut [u8]) -> Ran
     ensures { λ r. ⌜ (r ≡ runOf (now (messages .entry)) (now (entries .entry)) .counts) × (now (entries .exit) ≡ runOf (now (messages .entry)) (now (entries .entry)) .entries) ⌝ }
 {
@@ -35,31 +41,98 @@ pub fn run(messages: &[u8], entries: &mut [u8]) -> Ran
         written: 0,
     };
     while ran.consumed < messages.len() {
-        let at = ran.consumed;
-        let rest = &messages[at..];
+        let from = ran.consumed;
+        let rest = &messages[from..];
         let whole = message::whole_length(layout::number1(rest, 0));
-        let from = ran.written;
-        let reading = message::read_message(rest);
-        let place = named::place_of(reading);
-        let answered = named::send(accounts[place], reading, &mut entries[from..]);
-        let answer = answered.answer;
-        let passed = passed_by(answer, whole);
-        ran = with_message(ran, passed);
-        if passed.stops {
-            return ran;
+        let to = ran.written;
+        let reading = with_room(message::read_message(rest), entries.len() - to);
+        let Reading::Message(message, _) = reading else {
+            let passed = passed_over(numbers::refusal_of_reading(reading), whole);
+            ran = with_message(ran, passed);
+            if passed.stops {
+                return ran;
+            }
+            continue;
+        };
+        match message {
+            Message::Request(heading, event) => {
+                let at = heading.account as usize;
+                let filed = heading.filed;
+                let account = accounts[at];
+                let stepped = account.request(heading.transaction, filed, event);
+                let reply = file(stepped.answer, stepped.entries, heading.account, whole, &mut entries[to..]);
+                let passed = passed_by(reply, whole);
+                if passed.refused == 0 {
+                    let next = stepped.account;
+                    accounts[at] = next;
+                }
+                ran = with_message(ran, passed);
+            }
+            Message::Commit(heading) => {
+                let at = heading.account as usize;
+                let filed = heading.filed;
+                let account = accounts[at];
+                let stepped = account.commit(heading.transaction, filed);
+                let reply = file(stepped.answer, stepped.entries, heading.account, whole, &mut entries[to..]);
+                let passed = passed_by(reply, whole);
+                if passed.refused == 0 {
+                    let next = stepped.account;
+                    accounts[at] = next;
+                }
+                ran = with_message(ran, passed);
+            }
+            Message::Abort(heading) => {
+                let at = heading.account as usize;
+                let filed = heading.filed;
+                let account = accounts[at];
+                let stepped = account.abort(heading.transaction, filed);
+                let reply = file(stepped.answer, stepped.entries, heading.account, whole, &mut entries[to..]);
+                let passed = passed_by(reply, whole);
+                if passed.refused == 0 {
+                    let next = stepped.account;
+                    accounts[at] = next;
+                }
+                ran = with_message(ran, passed);
+            }
         }
-        let next = answered.account;
-        accounts[place] = next;
     }
     ran
 }
 
-// What a message comes to, by its answer and its whole length: here alone it is said where a run stops, and how it goes on.
-pub fn passed_by(answer: Answer, whole: usize) -> Passed
-    ensures { λ r. ⌜ r ≡ passedOf answer whole ⌝ }
+// What was read, where there is room for a call's entries; else 4 in place of a message.
+fn with_room(reading: Reading, room: usize) -> Reading
+    ensures { λ r. ⌜ r ≡ roomed reading room ⌝ }
 {
-    let Answer::Taken(consumed, written) = answer else {
-        return passed_over(refusal_of(answer), whole);
+    let Reading::Message(_, _) = reading else {
+        return reading;
+    };
+    if room < entry::LONGEST_CALL {
+        return Reading::Refused(4);
+    }
+    reading
+}
+
+// Files what the account of that number made of a message of that length: its refusal, or its entries at the beginning of the buffer.
+fn file(answer: Answer, entries: Entries, account: u16, consumed: usize, buffer: &mut [u8]) -> Reply
+    requires { ⌜ Fitting entries account (now buffer) ⌝ }
+    ensures { λ r. ⌜ (r ≡ filedOf answer entries account consumed (now (buffer .entry)) .reply) × (now (buffer .exit) ≡ filedOf answer entries account consumed (now (buffer .entry)) .buffer) ⌝ }
+{
+    let Answer::Taken = answer else {
+        return Reply::Refused(numbers::refusal_of_step(answer));
+    };
+    let writing = entry::write_entries(entries, account, buffer);
+    let Writing::Written(written) = writing else {
+        return Reply::Refused(4);
+    };
+    Reply::Taken(consumed, written)
+}
+
+// What a message comes to, by its reply and its whole length: here alone it is said where a run stops, and how it goes on.
+pub fn passed_by(reply: Reply, whole: usize) -> Passed
+    ensures { λ r. ⌜ r ≡ passedOf reply whole ⌝ }
+{
+    let Reply::Taken(consumed, written) = reply else {
+        return passed_over(refusal_of(reply), whole);
     };
     Passed {
         refused: 0,
@@ -90,12 +163,12 @@ fn passed_over(number: u8, whole: usize) -> Passed
 }
 
 // The number of a refusal; 0 where the message was taken.
-pub fn refusal_of(answer: Answer) -> u8
-    ensures { λ r. ⌜ r ≡ answerNumber answer ⌝ }
+pub fn refusal_of(reply: Reply) -> u8
+    ensures { λ r. ⌜ r ≡ replyNumber reply ⌝ }
 {
-    match answer {
-        Answer::Refused(number) => number,
-        Answer::Taken(_, _) => 0,
+    match reply {
+        Reply::Refused(number) => number,
+        Reply::Taken(_, _) => 0,
     }
 }
 

@@ -1,5 +1,6 @@
 pub mod Lists
 pub mod Rule
+pub mod Tests
 pub mod Outcome
 pub mod Weigh
 pub mod Step
@@ -17,4 +18,3 @@ pub mod Written
 pub mod Refusals
 pub mod Says
 pub mod Filed
-pub mod Tests

@@ -1,7 +1,7 @@
 -- `message::read_message` meets its contract: each way out is a law of the reader's definition.
 -- Assumes nothing.
 use mathlib.Core.Path.{_≡_, sym}
-use Rattle.layout.specs.Fields.{rowOf, wholeOf}
+use Rattle.layout.specs.Fields.{rowOfKind, wholeOf}
 use Rattle.layout.proofs.Shapes.{shape-whole}
 use Rattle.message.specs.Bytes.{messages}
 use Rattle.message.proofs.Reader.{read-empty, read-unknown, read-short, read-last, read-row}
@@ -26,7 +26,7 @@ returns-2 c =
     let bytes = at-if1 .before .before .args .bytes .now in
     let kind = at-number1 .number1 .result in
     let shape = at-shape-of .shape-of .result in
-    let whole : shape .whole ≡ wholeOf (rowOf messages kind) = rw (at-shape-of .shape-of .ensures) (shape-whole (rowOf messages kind)) in
+    let whole : shape .whole ≡ wholeOf (rowOfKind messages kind) = rw (at-shape-of .shape-of .ensures) (shape-whole (rowOfKind messages kind)) in
     sym (read-unknown bytes kind (shape .whole) (at-if1 .if1 .left) (at-number1 .number1 .ensures) whole (c .if2 .taken))
 
 returns-3 : tie.Need-returns-3
@@ -38,7 +38,7 @@ returns-3 c =
     let bytes = at-if1 .before .before .args .bytes .now in
     let kind = at-number1 .number1 .result in
     let shape = at-shape-of .shape-of .result in
-    let whole : shape .whole ≡ wholeOf (rowOf messages kind) = rw (at-shape-of .shape-of .ensures) (shape-whole (rowOf messages kind)) in
+    let whole : shape .whole ≡ wholeOf (rowOfKind messages kind) = rw (at-shape-of .shape-of .ensures) (shape-whole (rowOfKind messages kind)) in
     sym (read-short bytes kind (shape .whole) (at-if1 .if1 .left) (at-number1 .number1 .ensures) whole (at-if2 .if2 .left) (c .if3 .taken))
 
 read-numbers-requires : tie.Need-read-numbers-requires
@@ -61,7 +61,7 @@ returns-4 c =
     let bytes = at-if1 .before .before .args .bytes .now in
     let kind = at-number1 .number1 .result in
     let shape = at-shape-of .shape-of .result in
-    let whole : shape .whole ≡ wholeOf (rowOf messages kind) = rw (at-shape-of .shape-of .ensures) (shape-whole (rowOf messages kind)) in
+    let whole : shape .whole ≡ wholeOf (rowOfKind messages kind) = rw (at-shape-of .shape-of .ensures) (shape-whole (rowOfKind messages kind)) in
     let numbers = rw (at-shape-of .shape-of .ensures) at (at-read-numbers .read-numbers .ensures) in
     let by-row = read-last bytes kind (shape .whole) (at-if1 .if1 .left) (at-number1 .number1 .ensures) whole (at-if2 .if2 .left) in
     sym (by-row (at-read-numbers .read-numbers .result) numbers (at-if3 .if3 .left) (c .if4 .taken))
@@ -75,8 +75,8 @@ array-read-t13 c = search needs
 cast-t18 : tie.Need-cast-t18
 cast-t18 c = search needs
 
-array-read-t21 : tie.Need-array-read-t21
-array-read-t21 c = search needs
+filed-from-requires : tie.Need-filed-from-requires
+filed-from-requires c κs = search needs
 
 array-read-message-of-2 : tie.Need-array-read-message-of-2
 array-read-message-of-2 c = search needs
@@ -86,7 +86,8 @@ message-of-requires c κs = search needs
 
 returns-5 : tie.Need-returns-5
 returns-5 c =
-    let at-if4 = c .before in
+    let at-filed-from = c .before in
+    let at-if4 = at-filed-from .before in
     let at-read-numbers = at-if4 .before in
     let at-if3 = at-read-numbers .before .before in
     let at-if2 = at-if3 .before .before in
@@ -96,10 +97,10 @@ returns-5 c =
     let bytes = at-if1 .before .before .args .bytes .now in
     let kind = at-number1 .number1 .result in
     let shape = at-shape-of .shape-of .result in
-    let whole : shape .whole ≡ wholeOf (rowOf messages kind) = rw (at-shape-of .shape-of .ensures) (shape-whole (rowOf messages kind)) in
+    let whole : shape .whole ≡ wholeOf (rowOfKind messages kind) = rw (at-shape-of .shape-of .ensures) (shape-whole (rowOfKind messages kind)) in
     let numbers = rw (at-shape-of .shape-of .ensures) at (at-read-numbers .read-numbers .ensures) in
     let by-row = read-row bytes kind (shape .whole) (at-if1 .if1 .left) (at-number1 .number1 .ensures) whole (at-if2 .if2 .left) in
-    rw (c .message-of .ensures) (sym (by-row (at-read-numbers .read-numbers .result) numbers (at-if3 .if3 .left) (at-if4 .if4 .left)))
+    rw (c .message-of .ensures, at-filed-from .filed-from .ensures) (sym (by-row (at-read-numbers .read-numbers .result) numbers (at-if3 .if3 .left) (at-if4 .if4 .left)))
 
 pub read-message-spec : {M : Type 1} → statement M
 read-message-spec =
@@ -117,7 +118,7 @@ read-message-spec =
     array-read-message-of
     array-read-t13
     cast-t18
-    array-read-t21
+    filed-from-requires
     array-read-message-of-2
     message-of-requires
     returns-5)

@@ -1,7 +1,7 @@
 -- `entry::reader::read_entry` meets its contract: each way out is a law of the reader's definition.
 -- Assumes nothing.
 use mathlib.Core.Path.{_≡_, sym, _∙_}
-use Rattle.layout.specs.Fields.{rowOf, wholeOf}
+use Rattle.layout.specs.Fields.{rowOfKind, wholeOf}
 use Rattle.layout.proofs.Shapes.{shape-whole}
 use Rattle.entry.specs.Bytes.{entryRows}
 use Rattle.entry.proofs.Reading.{read-unknown, read-short, read-last, read-row}
@@ -22,7 +22,7 @@ returns c =
     let bytes = at-number1 .before .before .args .bytes .now in
     let kind = at-number1 .number1 .result in
     let shape = at-shape-of .shape-of .result in
-    let whole : shape .whole ≡ wholeOf (rowOf entryRows kind) = rw (at-shape-of .shape-of .ensures) (shape-whole (rowOf entryRows kind)) in
+    let whole : shape .whole ≡ wholeOf (rowOfKind entryRows kind) = rw (at-shape-of .shape-of .ensures) (shape-whole (rowOfKind entryRows kind)) in
     sym (read-unknown bytes kind (shape .whole) (at-number1 .number1 .ensures) whole (c .if1 .taken))
 
 returns-2 : tie.Need-returns-2
@@ -33,7 +33,7 @@ returns-2 c =
     let bytes = at-number1 .before .before .args .bytes .now in
     let kind = at-number1 .number1 .result in
     let shape = at-shape-of .shape-of .result in
-    let whole : shape .whole ≡ wholeOf (rowOf entryRows kind) = rw (at-shape-of .shape-of .ensures) (shape-whole (rowOf entryRows kind)) in
+    let whole : shape .whole ≡ wholeOf (rowOfKind entryRows kind) = rw (at-shape-of .shape-of .ensures) (shape-whole (rowOfKind entryRows kind)) in
     sym (read-short bytes kind (shape .whole) (at-number1 .number1 .ensures) whole (c .if2 .taken))
 
 read-numbers-requires : tie.Need-read-numbers-requires
@@ -55,7 +55,7 @@ returns-3 c =
     let bytes = at-number1 .before .before .args .bytes .now in
     let kind = at-number1 .number1 .result in
     let shape = at-shape-of .shape-of .result in
-    let whole : shape .whole ≡ wholeOf (rowOf entryRows kind) = rw (at-shape-of .shape-of .ensures) (shape-whole (rowOf entryRows kind)) in
+    let whole : shape .whole ≡ wholeOf (rowOfKind entryRows kind) = rw (at-shape-of .shape-of .ensures) (shape-whole (rowOfKind entryRows kind)) in
     let numbers = rw (at-shape-of .shape-of .ensures) at (at-read-numbers .read-numbers .ensures) in
     let by-row = read-last bytes kind (shape .whole) (at-number1 .number1 .ensures) whole (at-if1 .if1 .left) (at-if2 .if2 .left) in
     sym (by-row (at-read-numbers .read-numbers .result) numbers (c .if3 .taken))
@@ -94,7 +94,7 @@ returns-4 c =
     let bytes = at-number1 .before .before .args .bytes .now in
     let kind = at-number1 .number1 .result in
     let shape = at-shape-of .shape-of .result in
-    let whole : shape .whole ≡ wholeOf (rowOf entryRows kind) = rw (at-shape-of .shape-of .ensures) (shape-whole (rowOf entryRows kind)) in
+    let whole : shape .whole ≡ wholeOf (rowOfKind entryRows kind) = rw (at-shape-of .shape-of .ensures) (shape-whole (rowOfKind entryRows kind)) in
     let numbers = rw (at-shape-of .shape-of .ensures) at (at-read-numbers .read-numbers .ensures) in
     let by-row = read-row bytes kind (shape .whole) (at-number1 .number1 .ensures) whole (at-if1 .if1 .left) (at-if2 .if2 .left) in
     let e = by-row (at-read-numbers .read-numbers .result) numbers (at-if3 .if3 .left) in
@@ -113,7 +113,7 @@ returns-5 c =
     let bytes = at-number1 .before .before .args .bytes .now in
     let kind = at-number1 .number1 .result in
     let shape = at-shape-of .shape-of .result in
-    let whole : shape .whole ≡ wholeOf (rowOf entryRows kind) = rw (at-shape-of .shape-of .ensures) (shape-whole (rowOf entryRows kind)) in
+    let whole : shape .whole ≡ wholeOf (rowOfKind entryRows kind) = rw (at-shape-of .shape-of .ensures) (shape-whole (rowOfKind entryRows kind)) in
     let numbers = rw (at-shape-of .shape-of .ensures) at (at-read-numbers .read-numbers .ensures) in
     let by-row = read-row bytes kind (shape .whole) (at-number1 .number1 .ensures) whole (at-if1 .if1 .left) (at-if2 .if2 .left) in
     let e = by-row (at-read-numbers .read-numbers .result) numbers (at-if3 .if3 .left) in

@@ -1,0 +1,24 @@
+-- The register of the first panel: the definitions, which are over any rule of the events, applied to it once.
+-- Assumes nothing.
+use Prim.Native.Nat.{ℕ}
+use mathlib.Core.List.{List}
+use Rattle.account.specs.declared.Outlook.{Outlook}
+use Rattle.account.specs.First.{panel}
+use Rattle.message.specs.declared.Message.{Message}
+use Rattle.register.specs.declared.Register.{Register}
+use Rattle.register.specs.declared.Sent.{Sent}
+use Rattle.register.specs.Register.{freshBy, sentBy, askedBy}
+use Rattle.register.specs.Call.{Result, calledBy}
+
+-- the fresh register, a message sent to a register, the outcome question, and the call
+abbrev pub freshRegister : Register
+freshRegister = freshBy panel
+
+abbrev pub sentOf : Register → Message → Sent
+sentOf r m = sentBy panel r m
+
+abbrev pub outlookIn : Register → (account number : ℕ) → Outlook
+outlookIn r i n = askedBy panel r i n
+
+abbrev pub callOf : Register → (bytes buffer : List ℕ) → Result
+callOf r bytes buffer = calledBy panel r bytes buffer
