@@ -18,3 +18,6 @@ pub mod Answered
 pub mod Asked
 pub mod Marked
 pub mod Ended
+pub mod Cases
+pub mod Answers
+pub mod Forms

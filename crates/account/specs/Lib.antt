@@ -5,3 +5,7 @@ pub mod First
 pub mod Known
 pub mod Judged
 pub mod Taken
+pub mod Cases
+pub mod Promises
+pub mod Answers
+pub mod Forms
