@@ -21,3 +21,7 @@ pub mod Ended
 pub mod Cases
 pub mod Answers
 pub mod Forms
+pub mod First
+pub mod Kept
+pub mod Refused
+pub mod Promises
