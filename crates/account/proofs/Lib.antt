@@ -3,3 +3,4 @@ pub mod Clauses
 pub mod Judged
 pub mod Known
 pub mod Decided
+pub mod Differ
