@@ -4,3 +4,6 @@ pub mod Judged
 pub mod Known
 pub mod Decided
 pub mod Differ
+pub mod Sought
+pub mod Passed
+pub mod Concluded
