@@ -7,3 +7,8 @@ pub mod Differ
 pub mod Sought
 pub mod Passed
 pub mod Concluded
+pub mod Walks
+pub mod Table
+pub mod InOrderExactly
+pub mod InOrderCases
+pub mod Questions

@@ -5,3 +5,8 @@ pub mod First
 pub mod Known
 pub mod Judged
 pub mod Taken
+pub mod Reached
+pub mod Table
+pub mod InOrderExactly
+pub mod InOrderCases
+pub mod Questions

@@ -17,3 +17,4 @@ pub mod Written
 pub mod Refusals
 pub mod Says
 pub mod Filed
+pub mod Tests
