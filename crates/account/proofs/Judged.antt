@@ -21,14 +21,26 @@ use Rattle.filing.specs.declared.Filed.{Filed}
 use Rattle.filing.specs.declared.Slot.{Slot}
 use Rattle.filing.specs.Slots.{RuleSlot, places, isUndecided, decisionOf, slotOf}
 use Rattle.account.specs.declared.Account.{Account}
+use Rattle.account.specs.declared.Answer.{Answer}
 use Rattle.account.specs.declared.Answer.the-variants as Answer′
 use Rattle.account.specs.declared.judging.Judged.{Judged}
+use Rattle.account.specs.declared.refusing.Asked.{Asked}
 use Rattle.account.specs.Places.{listsOf}
 use Rattle.account.specs.Steps.{refusalIn}
 use Rattle.account.specs.First.{panel, heldLimit, inOrderOf}
 use Rattle.account.specs.Judged.{Judges, requestAnswer, commitAnswer, abortAnswer, askedAnswer, answerBy, messageAsks, messageNames}
 use Rattle.account.proofs.Places.{count-used}
 use Rattle.account.proofs.Clauses.{rule-clauses}
+
+-- the answer to what is asked, of an account in order or not
+pub answer-asked : (j : Judged) (asked x : Asked) (holding : ℕ) (r : Answer) → j .in_order ≡ true → asked ≡ x → r ≡ askedAnswer j x holding → r ≡ answerBy j asked holding
+unfolding answerBy
+answer-asked j asked x holding r h q e =
+    e ∙ ap (λ (y : Asked). askedAnswer j y holding) (sym q) ∙ ap (λ (b : Bool). cond b (askedAnswer j asked holding) (Answer′.Refused 5)) (sym h)
+
+pub answer-disorder : (j : Judged) (asked : Asked) (holding : ℕ) → j .in_order ≡ false → Answer′.Refused 5 ≡ answerBy j asked holding
+unfolding answerBy
+answer-disorder j asked holding h = ap (λ (b : Bool). cond b (askedAnswer j asked holding) (Answer′.Refused 5)) (sym h)
 
 -- the answers as numbers
 request-number : (named full : Bool) → refusalIn (requestAnswer named full) ≡ cond named (some 6) (cond full (some 7) none)

@@ -23,10 +23,12 @@ use Rattle.events.proofs.States.{formed, range-one}
 use Rattle.events.proofs.Newest.{outcomes-past, outcomes-more, guarded-more}
 use Rattle.events.proofs.Answers.{outcomes-every, outcomes-after, outcomes-perhaps}
 use Rattle.account.specs.declared.outcomes.Outcomes.{Outcomes}
+use Rattle.account.specs.Places.{used}
 use Rattle.account.specs.First.{progressLimit, heldLimit, panel}
 use Rattle.filing.specs.declared.Decision.{Decision}
 use Rattle.filing.specs.declared.Decision.the-variants.{Undecided, Committed}
 use Rattle.filing.specs.declared.Filed.{Filed}
+use Rattle.filing.specs.declared.Slot.{Slot}
 use Rattle.filing.specs.Slots.{RuleSlot, isUndecided, decisionOf}
 use Rattle.account.specs.Known.{Knows}
 
@@ -105,3 +107,7 @@ pub knows-few : (s : State) (xs : List RuleSlot) (o : Outcomes) → Knows s xs o
 knows-few s xs o k h =
     let most : 2 ^ undecidedOf xs ≤ 2 ^ 7 = pow-mono {j = 7} (omega (arith, undecided-few xs)) in
     omega (arith, k .number, outcomes-length panel xs s)
+
+-- at the last place, all of them
+pub knows-end : (s : State) (row : List Slot) (o : Outcomes) (at count : ℕ) → at ≤ count → count ≤ at → Knows s (used row at) o → Knows s (used row count) o
+knows-end s row o at count h l k = let e : at ≡ count = omega arith in rw e at k

@@ -25,3 +25,12 @@ pub mod First
 pub mod Kept
 pub mod Refused
 pub mod Promises
+pub mod Differ
+pub mod Sought
+pub mod Passed
+pub mod Concluded
+pub mod Walks
+pub mod Table
+pub mod InOrderExactly
+pub mod InOrderCases
+pub mod Questions

@@ -9,3 +9,8 @@ pub mod Cases
 pub mod Promises
 pub mod Answers
 pub mod Forms
+pub mod Reached
+pub mod Table
+pub mod InOrderExactly
+pub mod InOrderCases
+pub mod Questions

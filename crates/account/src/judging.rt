@@ -4,7 +4,7 @@ use crate::outcomes::Outcomes;
 use filing::Slot;
 ghost use mathlib.Core.Path.{_≡_};
 ghost use Prim.Native.Nat.{_≤_};
-ghost use lib.ListN.{take};
+ghost use lib.ListN.{length, take};
 ghost use Rattle.account.specs.First.{inOrderOf};
 ghost use Rattle.account.specs.Judged.{Judges, bothRows, allDiffer};
 
@@ -101,7 +101,7 @@ impl Account {
 
 // Whether the first transactions, so many of them, all differ (6.4).
 fn differ(transactions: &[u32; Account::BOTH], count: usize) -> bool
-    requires { ⌜ count ≤ bothRows ⌝ }
+    requires { ⌜ (count ≤ bothRows) × (length (now transactions) ≡ bothRows) ⌝ }
     ensures { λ r. ⌜ r ≡ allDiffer (take count (now (transactions .entry))) ⌝ }
 {
     let mut at = 0;
