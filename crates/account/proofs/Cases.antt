@@ -1,4 +1,4 @@
--- The cases: antt computes the whole table.
+-- The cases: antt computes the whole table, and all outcomes of eight undecided events.
 -- Assumes nothing.
 use mathlib.Core.Path.{refl}
 use Rattle.rule.specs.Outcome.{outcomes}
@@ -6,8 +6,12 @@ use Rattle.rule.specs.Weigh.{weigh, decide}
 use Rattle.rule.specs.Step.{settle, asked, committing, aborting}
 use Rattle.rule.specs.Call.{call}
 use Rattle.events.specs.Events.{effectOf}
-use Rattle.account.specs.Cases.{table, CasesHold}
+use Rattle.account.specs.Cases.{table, CasesHold, BitsHold}
 
 pub cases : CasesHold
 unfolding outcomes weigh decide settle asked committing aborting call effectOf table
 cases = refl
+
+pub bits : BitsHold
+unfolding outcomes effectOf
+bits = refl

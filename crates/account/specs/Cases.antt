@@ -1,17 +1,19 @@
 -- The cases close to the line (docs/REGISTER.md, 14.1 to 14.9 and the outcomes below them), and rows for what no case has: one table, one statement.
 -- Assumes nothing.
-use Prim.Native.Nat.{ℕ, suc, _^_}
+use Prim.Native.Nat.{ℕ, suc, _-_, _^_}
 use mathlib.Core.Path.{_≡_}
 use mathlib.Core.List.{List, [], _∷_, _++_, map}
 use lib.ListN.{replicate}
 use Rattle.rule.specs.Lists.{numbers}
-use Rattle.rule.specs.Rule.{Message, request, commit, abort, Verdict, accept, reject, hold, Weighing, Entry, voted, noted, applied, dropped, newAccount}
+use Rattle.rule.specs.Rule.{undecided, slot, Message, request, commit, abort, Verdict, accept, reject, hold, Weighing, Entry, voted, noted, applied, dropped, newAccount}
 use Rattle.rule.specs.Outcome.{undecidedOf, appliedIn, outcomes}
 use Rattle.rule.specs.Call.{Answer, refused, taken, call, reached}
 use Rattle.events.specs.declared.Event.{Event}
 use Rattle.events.specs.declared.Event.the-variants.{Open, Withdraw, Deposit, Close}
+use Rattle.events.specs.declared.Life.the-variants.{Opened}
 use Rattle.events.specs.declared.State.{State}
 use Rattle.filing.specs.declared.Filed.{Filed}
+use Rattle.filing.specs.Slots.{RuleSlot}
 use Rattle.account.specs.First.{panel}
 use Rattle.account.specs.Places.{RuleAccount}
 
@@ -193,3 +195,11 @@ table =
 -- what is found is what is said, row by row
 abbrev pub CasesHold : Type 0
 CasesHold = map found table ≡ map (λ (r : Row). r .said) table
+
+-- withdrawals of 1, 2, 4 and so on up to 128 undecided on 255: each has a bit of its own, the oldest the lowest, so that the outcome of number n has n steps less (4.2)
+abbrev pub powers : List RuleSlot
+powers = map (λ (i : ℕ). slot i filed (Withdraw (2 ^ i)) undecided) (numbers 0 8)
+
+abbrev pub BitsHold : Type 0
+BitsHold =
+    map (λ (s : State). s .balance) (outcomes panel powers (record { life = Opened; balance = 255 })) ≡ map (λ (n : ℕ). 255 - n) (numbers 0 256)
