@@ -64,56 +64,56 @@ module _ (R : rule.Rule State Event ℕ) (a : Account) where
       (askedAll : all ≡ (requests && every isBlank (drop (a .holding) (a .held))))
       (askedGuards : guards ≡ rule-order.guarded R (a .state) [] (used (a .progress) (a .progressing)))
       (askedDiffer : differ ≡ rule-order.apart (used (a .progress) (a .progressing) ++ used (a .held) (a .holding)))
-      where
-    holds : (all && guards && differ) ≡ true → inOrderBy R a ≡ true
-    unfolding listsOf
-    holds h =
-        let c1 = R .fits (a .state) in
-        let c2 = rule-order.oldestUndecided (used (a .progress) (a .progressing)) in
-        let c3 = every isBlank (drop (a .progressing) (a .progress)) in
-        let c4 = every rule-order.withoutDecision (used (a .held) (a .holding)) in
-        let c5 = rule-order.oldestStaysHeld R (a .state) (used (a .progress) (a .progressing)) (used (a .held) (a .holding)) in
-        let c6 = every isBlank (drop (a .holding) (a .held)) in
-        let h1 = and-left (all && guards) differ h in
-        let g = and-right all guards h1 in
-        let h2 = sym askedAll ∙ and-left all guards h1 in
-        let h3 = sym (askedRequests g) ∙ and-left requests c6 h2 in
-        let h4 = and-right blanks (c4 && c5) h3 in
-        let h5 = sym askedBlanks ∙ and-left blanks (c4 && c5) h3 in
-        let h6 = sym askedEvents ∙ and-left events c3 h5 in
-        ordered.clauses-order R a
-        (record {
-          progressing = few;
-          holding = fewHeld;
-          blanks = and-right events c3 h5;
-          blanksHeld = and-right requests c6 h2;
-          lists =
-              clauses-order R (listsOf a)
-              (record {
-                counts = and-both _ _ (within (a .progress) (a .progressing) (R .progressLimit) few) (within (a .held) (a .holding) (R .heldLimit) fewHeld);
-                state = and-left c1 c2 h6;
-                transactions = sym askedDiffer ∙ and-right (all && guards) differ h;
-                decisions = and-left c4 c5 h4;
-                guards = sym askedGuards ∙ g;
-                oldest = and-right c1 c2 h6;
-                stays = and-right c4 c5 h4;
-              });
-        })
+    where
+      holds : (all && guards && differ) ≡ true → inOrderBy R a ≡ true
+      unfolding listsOf
+      holds h =
+          let c1 = R .fits (a .state) in
+          let c2 = rule-order.oldestUndecided (used (a .progress) (a .progressing)) in
+          let c3 = every isBlank (drop (a .progressing) (a .progress)) in
+          let c4 = every rule-order.withoutDecision (used (a .held) (a .holding)) in
+          let c5 = rule-order.oldestStaysHeld R (a .state) (used (a .progress) (a .progressing)) (used (a .held) (a .holding)) in
+          let c6 = every isBlank (drop (a .holding) (a .held)) in
+          let h1 = and-left (all && guards) differ h in
+          let g = and-right all guards h1 in
+          let h2 = sym askedAll ∙ and-left all guards h1 in
+          let h3 = sym (askedRequests g) ∙ and-left requests c6 h2 in
+          let h4 = and-right blanks (c4 && c5) h3 in
+          let h5 = sym askedBlanks ∙ and-left blanks (c4 && c5) h3 in
+          let h6 = sym askedEvents ∙ and-left events c3 h5 in
+          ordered.clauses-order R a
+          (record {
+            progressing = few;
+            holding = fewHeld;
+            blanks = and-right events c3 h5;
+            blanksHeld = and-right requests c6 h2;
+            lists =
+                clauses-order R (listsOf a)
+                (record {
+                  counts = and-both _ _ (within (a .progress) (a .progressing) (R .progressLimit) few) (within (a .held) (a .holding) (R .heldLimit) fewHeld);
+                  state = and-left c1 c2 h6;
+                  transactions = sym askedDiffer ∙ and-right (all && guards) differ h;
+                  decisions = and-left c4 c5 h4;
+                  guards = sym askedGuards ∙ g;
+                  oldest = and-right c1 c2 h6;
+                  stays = and-right c4 c5 h4;
+                });
+          })
 
-    asked : inOrderBy R a ≡ true → (all && guards && differ) ≡ true
-    unfolding listsOf
-    asked h =
-        let p = ordered.clauses R a h in
-        let k = ordered.rule-clauses R a h in
-        let g = askedGuards ∙ k .guards in
-        let h1 = askedEvents ∙ and-both _ _ (k .state) (k .oldest) in
-        let h2 = askedBlanks ∙ and-both _ _ h1 (p .blanks) in
-        let h3 = askedRequests g ∙ and-both _ _ h2 (and-both _ _ (k .decisions) (k .stays)) in
-        let h4 = askedAll ∙ and-both _ _ h3 (p .blanksHeld) in
-        and-both (all && guards) differ (and-both all guards h4 g) (askedDiffer ∙ k .transactions)
+      asked : inOrderBy R a ≡ true → (all && guards && differ) ≡ true
+      unfolding listsOf
+      asked h =
+          let p = ordered.clauses R a h in
+          let k = ordered.rule-clauses R a h in
+          let g = askedGuards ∙ k .guards in
+          let h1 = askedEvents ∙ and-both _ _ (k .state) (k .oldest) in
+          let h2 = askedBlanks ∙ and-both _ _ h1 (p .blanks) in
+          let h3 = askedRequests g ∙ and-both _ _ h2 (and-both _ _ (k .decisions) (k .stays)) in
+          let h4 = askedAll ∙ and-both _ _ h3 (p .blanksHeld) in
+          and-both (all && guards) differ (and-both all guards h4 g) (askedDiffer ∙ k .transactions)
 
-    pub judged-order : (all && guards && differ) ≡ inOrderBy R a
-    judged-order = same-test (all && guards && differ) (inOrderBy R a) holds asked
+      pub judged-order : (all && guards && differ) ≡ inOrderBy R a
+      judged-order = same-test (all && guards && differ) (inOrderBy R a) holds asked
 
   -- counts beyond the places are not in order
   beyond : R .progressLimit ≤ places → R .heldLimit ≤ places → (ltb places (a .progressing) || ltb places (a .holding)) ≡ true → inOrderBy R a ≡ true → ⊥
@@ -144,56 +144,56 @@ module _ (a : Account) (t : ℕ) (outcomes : Outcomes) where
       (e3 : a .holding ≤ at3) (k3 : RequestsPassed panel a t (outcomes .guarded) foundEvent blanks listed request found requests listedAll at3)
       (e4 : places ≤ at4) (k4 : BlanksPassed (a .held) requests at3 all at4)
       (asked : differ ≡ allDiffer (take (a .progressing + a .holding) listedAll))
-      where
-    ends : at1 ≡ a .progressing
-    ends = omega (arith, k1 .within)
+    where
+      ends : at1 ≡ a .progressing
+      ends = omega (arith, k1 .within)
 
-    endsHeld : at3 ≡ a .holding
-    endsHeld = omega (arith, k3 .within)
+      endsHeld : at3 ≡ a .holding
+      endsHeld = omega (arith, k3 .within)
 
-    abbrev xs : List Slot
-    xs = take (a .progressing) (a .progress)
+      abbrev xs : List Slot
+      xs = take (a .progressing) (a .progress)
 
-    abbrev ys : List Slot
-    ys = take (a .holding) (a .held)
+      abbrev ys : List Slot
+      ys = take (a .holding) (a .held)
 
-    passed : EventsPassed panel a t event foundEvent events listed (a .progressing)
-    passed = rw ends at k1
+      passed : EventsPassed panel a t event foundEvent events listed (a .progressing)
+      passed = rw ends at k1
 
-    passedHeld : RequestsPassed panel a t (outcomes .guarded) foundEvent blanks listed request found requests listedAll (a .holding)
-    passedHeld = rw endsHeld at k3
+      passedHeld : RequestsPassed panel a t (outcomes .guarded) foundEvent blanks listed request found requests listedAll (a .holding)
+      passedHeld = rw endsHeld at k3
 
-    known : Knows (a .state) (used (a .progress) (a .progressing)) outcomes
-    known = rw ends at knows
+      known : Knows (a .state) (used (a .progress) (a .progressing)) outcomes
+      known = rw ends at knows
 
-    differs : differ ≡ rule-order.apart (map slotOf xs ++ map slotOf ys)
-    differs = asked ∙ ap allDiffer (passedHeld .listed .noted ∙ ap (λ (l : List ℕ). l ++ map transactionIn ys) (passed .listed .noted)) ∙ lists-apart xs ys
+      differs : differ ≡ rule-order.apart (map slotOf xs ++ map slotOf ys)
+      differs = asked ∙ ap allDiffer (passedHeld .listed .noted ∙ ap (λ (l : List ℕ). l ++ map transactionIn ys) (passed .listed .noted)) ∙ lists-apart xs ys
 
-    ordered-as : (all && outcomes .guarded && differ) ≡ inOrderOf a
-    ordered-as =
-        judged-order panel a events blanks requests all (outcomes .guarded) differ few fewHeld (passed .clauses)
-        (blanks-end (a .progress) events (a .progressing) blanks at2 e2 many (rw ends at k2))
-        (passedHeld .clauses)
-        (blanks-end (a .held) requests (a .holding) all at4 e4 manyHeld (rw endsHeld at k4))
-        (known .guards)
-        differs
+      ordered-as : (all && outcomes .guarded && differ) ≡ inOrderOf a
+      ordered-as =
+          judged-order panel a events blanks requests all (outcomes .guarded) differ few fewHeld (passed .clauses)
+          (blanks-end (a .progress) events (a .progressing) blanks at2 e2 many (rw ends at k2))
+          (passedHeld .clauses)
+          (blanks-end (a .held) requests (a .holding) all at4 e4 manyHeld (rw endsHeld at k4))
+          (known .guards)
+          differs
 
-    only-one : inOrderOf a ≡ true → (some-of (named t) (map slotOf xs) || some-of (named t) (map slotOf ys)) ≡ true → keep (named t) (map slotOf xs) ++ keep (named t) (map slotOf ys) ≡ slotOf found ∷ []
-    unfolding listsOf
-    only-one h q =
-        let both = map-append slotOf xs ys in
-        let apart = ap rule-order.apart both ∙ ordered.rule-clauses panel a h .transactions in
-        let named-there = ap (some-of (named t)) both ∙ some-append (named t) (map slotOf xs) (map slotOf ys) ∙ q in
-        sym (keep-append (named t) (map slotOf xs) (map slotOf ys)) ∙ ap (keep (named t)) (sym both)
-        ∙ only-found t xs ys found (passedHeld .sought .last ∙ ap (λ (x : Slot). lastNamed t x ys) (passed .sought .last)) apart named-there
+      only-one : inOrderOf a ≡ true → (some-of (named t) (map slotOf xs) || some-of (named t) (map slotOf ys)) ≡ true → keep (named t) (map slotOf xs) ++ keep (named t) (map slotOf ys) ≡ slotOf found ∷ []
+      unfolding listsOf
+      only-one h q =
+          let both = map-append slotOf xs ys in
+          let apart = ap rule-order.apart both ∙ ordered.rule-clauses panel a h .transactions in
+          let named-there = ap (some-of (named t)) both ∙ some-append (named t) (map slotOf xs) (map slotOf ys) ∙ q in
+          sym (keep-append (named t) (map slotOf xs) (map slotOf ys)) ∙ ap (keep (named t)) (sym both)
+          ∙ only-found t xs ys found (passedHeld .sought .last ∙ ap (λ (x : Slot). lastNamed t x ys) (passed .sought .last)) apart named-there
 
-    pub judges-all : Judges a t (record { outcomes = outcomes; slot = found; event = event; request = request; in_order = all && outcomes .guarded && differ })
-    unfolding listsOf
-    judges-all =
-        record {
-          ordered = ordered-as;
-          knows = λ h. known;
-          event = λ h. passed .sought .stands;
-          request = λ h. passedHeld .sought .stands;
-          slot = only-one;
-        }
+      pub judges-all : Judges a t (record { outcomes = outcomes; slot = found; event = event; request = request; in_order = all && outcomes .guarded && differ })
+      unfolding listsOf
+      judges-all =
+          record {
+            ordered = ordered-as;
+            knows = λ h. known;
+            event = λ h. passed .sought .stands;
+            request = λ h. passedHeld .sought .stands;
+            slot = only-one;
+          }

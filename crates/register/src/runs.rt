@@ -60,7 +60,13 @@ pub fn run(messages: &[u8], entries: &mut [u8]) -> Ran
                 let filed = heading.filed;
                 let account = accounts[at];
                 let stepped = account.request(heading.transaction, filed, event);
-                let reply = file(stepped.answer, stepped.entries, heading.account, whole, &mut entries[to..]);
+                let reply = file(
+                    stepped.answer,
+                    stepped.entries,
+                    heading.account,
+                    whole,
+                    &mut entries[to..],
+                );
                 let passed = passed_by(reply, whole);
                 if passed.refused == 0 {
                     let next = stepped.account;
@@ -73,7 +79,13 @@ pub fn run(messages: &[u8], entries: &mut [u8]) -> Ran
                 let filed = heading.filed;
                 let account = accounts[at];
                 let stepped = account.commit(heading.transaction, filed);
-                let reply = file(stepped.answer, stepped.entries, heading.account, whole, &mut entries[to..]);
+                let reply = file(
+                    stepped.answer,
+                    stepped.entries,
+                    heading.account,
+                    whole,
+                    &mut entries[to..],
+                );
                 let passed = passed_by(reply, whole);
                 if passed.refused == 0 {
                     let next = stepped.account;
@@ -86,7 +98,13 @@ pub fn run(messages: &[u8], entries: &mut [u8]) -> Ran
                 let filed = heading.filed;
                 let account = accounts[at];
                 let stepped = account.abort(heading.transaction, filed);
-                let reply = file(stepped.answer, stepped.entries, heading.account, whole, &mut entries[to..]);
+                let reply = file(
+                    stepped.answer,
+                    stepped.entries,
+                    heading.account,
+                    whole,
+                    &mut entries[to..],
+                );
                 let passed = passed_by(reply, whole);
                 if passed.refused == 0 {
                     let next = stepped.account;

@@ -189,7 +189,7 @@ loop-again c =
     let added = c .before .before in (
       rw (used-more (a .progress) (v .at) blank room) (added .with .ensures (a .state) (used (a .progress) (v .at)) (x .transaction) (x .filed) (v .inv .0)),
       events-more panel a t (v .event) (v .found) (v .in-order) (v .transactions) (v .at) less few (rows start .0) (v .inv .1) (c .if2 .event) (c .if2 .found) sought
-      (added .before .is-undecided .result) (added .before .is-undecided .ensures),
+          (added .before .is-undecided .result) (added .before .is-undecided .ensures),
     )
 
 loop2-holds :
