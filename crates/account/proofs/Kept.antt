@@ -102,7 +102,7 @@ module _ (R : rule.Rule State Event ℕ) where
             arith,
             writes-few p k m (step R (listsOf a) m .entries) shape,
             leb-true p (R .progressLimit) (and-left (leb p (R .progressLimit)) (leb k (R .heldLimit)) (own .counts)),
-            leb-true k (R .heldLimit) (and-right (leb p (R .progressLimit)) (leb k (R .heldLimit)) (own .counts))
+            leb-true k (R .heldLimit) (and-right (leb p (R .progressLimit)) (leb k (R .heldLimit)) (own .counts)),
           )
 
       ordered : (b : Bool) → inOrderBy R a ≡ b → stepBy R a m .entries .count ≤ most

@@ -119,12 +119,12 @@ loop-again c =
     let below : v .at < a .self .holding = test .before .before .before .if2 .taken in
     ⊎-elim
     (λ w.
-        let first = rw (test .is-held .ensures) at (w .0 .taken) in
-        let entry = w .3 in
-        ⊎-elim
-        (λ u. rw (w .4, w .5, w .6, w .7, u .2, u .3) (voting-accept (a .self) (a .written) (v .next) (v .entries) (v .outcomes) (v .voted) (v .at) (v .inv) below (weigh .result) (weigh .ensures) (entry .result) (entry .ensures) first (u .1 .result) (sym (w .1 .ensures) ∙ u .0 .taken) (u .1 .ensures)))
-        (λ u. rw (w .4, w .5, w .6, w .7, u .1, u .2) (voting-reject (a .self) (a .written) (v .next) (v .entries) (v .outcomes) (v .voted) (v .at) (v .inv) below (weigh .result) (weigh .ensures) (entry .result) (entry .ensures) first (sym (w .1 .ensures) ∙ u .0 .left)))
-        (w .2 .came))
+    let first = rw (test .is-held .ensures) at (w .0 .taken) in
+    let entry = w .3 in
+    ⊎-elim
+    (λ u. rw (w .4, w .5, w .6, w .7, u .2, u .3) (voting-accept (a .self) (a .written) (v .next) (v .entries) (v .outcomes) (v .voted) (v .at) (v .inv) below (weigh .result) (weigh .ensures) (entry .result) (entry .ensures) first (u .1 .result) (sym (w .1 .ensures) ∙ u .0 .taken) (u .1 .ensures)))
+    (λ u. rw (w .4, w .5, w .6, w .7, u .1, u .2) (voting-reject (a .self) (a .written) (v .next) (v .entries) (v .outcomes) (v .voted) (v .at) (v .inv) below (weigh .result) (weigh .ensures) (entry .result) (entry .ensures) first (sym (w .1 .ensures) ∙ u .0 .left)))
+    (w .2 .came))
     (λ w. rw (w .1, w .2, w .3, w .4) (voting-stays (a .self) (a .written) (v .next) (v .entries) (v .outcomes) (v .voted) (v .at) (v .inv) below (weigh .result) (weigh .ensures) (rw (test .is-held .ensures) at (w .0 .left))))
     (c .if3 .came)
 

@@ -127,10 +127,10 @@ returns-2 c =
     (⊎-elim
     (λ u. let v = u .1 .given .1 in rw (u .2) (asked-accept panel self lists (known .lists) (a .transaction) (a .filed) (a .event) w (known .decided) (c .only .result) entries v (known .free (ap isAccepted v))))
     (λ y.
-        ⊎-elim
-        (λ u. rw (u .2) (asked-reject panel self lists (known .lists) (a .transaction) (a .filed) (a .event) w (known .decided) (c .only .result) entries (u .1 .given .1)))
-        (λ u. rw (u .2) (asked-hold panel self lists (known .lists) (a .transaction) (a .filed) (a .event) w (known .decided) (c .only .result) entries (u .1 .given .1) (known .room)))
-        y)
+    ⊎-elim
+    (λ u. rw (u .2) (asked-reject panel self lists (known .lists) (a .transaction) (a .filed) (a .event) w (known .decided) (c .only .result) entries (u .1 .given .1)))
+    (λ u. rw (u .2) (asked-hold panel self lists (known .lists) (a .transaction) (a .filed) (a .event) w (known .decided) (c .only .result) entries (u .1 .given .1) (known .room)))
+    y)
     (join .match2 .came))
     ∙ answer-taken panel (a .self) message (answered .answer .result) (says answered) taken
 

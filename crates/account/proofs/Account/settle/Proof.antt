@@ -118,12 +118,12 @@ loop-again c =
       v .inv .0,
       ⊎-elim
           (λ w.
-              let first = rw (test .is-undecided .ensures) at (w .0 .taken) in
-              let entry = rw (w .1 .ensures) at (w .2 .ensures) in
-              rw (w .3, w .4, w .5, w .6, w .1 .ensures) (applying-next (a .self) (join .if1 .next .progress) (way .before .before .only .result) (v .next) (v .entries) (v .state) (v .ended) (v .at) (v .inv .1) below (w .2 .result) entry first))
+          let first = rw (test .is-undecided .ensures) at (w .0 .taken) in
+          let entry = rw (w .1 .ensures) at (w .2 .ensures) in
+          rw (w .3, w .4, w .5, w .6, w .1 .ensures) (applying-next (a .self) (join .if1 .next .progress) (way .before .before .only .result) (v .next) (v .entries) (v .state) (v .ended) (v .at) (v .inv .1) below (w .2 .result) entry first))
           (λ w.
-              let later = rw (test .is-undecided .ensures) at (w .0 .left) in
-              rw (w .1, w .2, w .3, w .4) (applying-stays (a .self) (join .if1 .next .progress) (way .before .before .only .result) (v .next) (v .entries) (v .state) (v .ended) (v .at) (v .inv .1) below later))
+          let later = rw (test .is-undecided .ensures) at (w .0 .left) in
+          rw (w .1, w .2, w .3, w .4) (applying-stays (a .self) (join .if1 .next .progress) (way .before .before .only .result) (v .next) (v .entries) (v .state) (v .ended) (v .at) (v .inv .1) below later))
           (c .if3 .came),
     )
 
