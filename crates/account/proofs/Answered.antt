@@ -1,14 +1,15 @@
 -- A step by its answer: what the answer refuses is refused so, and what it takes is the rule's step, of an account in order.
 -- Assumes nothing.
-use Prim.Native.Nat.{ℕ, _≤_}
+use Prim.Native.Nat.{ℕ}
 use mathlib.Core.Path.{_≡_, refl, sym, ap, _∙_}
 use mathlib.Core.Bool.{Bool, true, false, cond}
-use mathlib.Core.Option.{Option, none, some}
+use mathlib.Core.Option.{none, some}
 use native.Mathlib.Omega.{arith}
 use lib.ListN.{length}
 use Rattle.rule.specs.Rule as rule
 use Rattle.rule.specs.Step.{step}
 use Rattle.rule.specs.Call.{refusal, call}
+use Rattle.rule.proofs.Refusals.{ended}
 use Rattle.events.specs.declared.Event.{Event}
 use Rattle.events.specs.declared.State.{State}
 use Rattle.filing.specs.declared.Filed.{Filed}
@@ -16,7 +17,6 @@ use Rattle.filing.specs.Slots.{places}
 use Rattle.account.specs.declared.Account.{Account}
 use Rattle.account.specs.declared.Answer.{Answer}
 use Rattle.account.specs.declared.Answer.the-variants as Answer′
-use Rattle.account.specs.declared.Stepped.{Stepped}
 use Rattle.account.specs.declared.judging.Judged.{Judged}
 use Rattle.account.specs.Places.{listsOf}
 use Rattle.account.specs.InOrder.{inOrderBy}
@@ -26,9 +26,6 @@ use Rattle.account.specs.Judged.{Judges, answerBy, messageAsks, messageN
 use Rattle.account.specs.Taken.{takenAs}
 use Rattle.account.proofs.Clauses.{clauses}
 use Rattle.account.proofs.Judged.{judged-refusal}
-
-never : {A : Type 0} (n : ℕ) → none ≡ some n → A
-never n h = let z : _≡_ {A = ℕ} 0 1 = cc in absurd (omega arith)
 
 module _ (R : rule.Rule State Event ℕ) (a : Account) (m : rule.Message Filed Event) (answer : Answer)
     (says : refusalIn answer ≡ cond (inOrderBy R a) (refusal R (listsOf a) m) (some 5)) where
@@ -45,7 +42,7 @@ module _ (R : rule.Rule State Event ℕ) (a : Account) (m : rule.Message Filed E
     where
       by : (b : Bool) → none ≡ cond b (refusal R (listsOf a) m) (some 5) → (b ≡ true) × (refusal R (listsOf a) m ≡ none)
       by true h = (refl, sym h)
-      by false h = never 5 h
+      by false h = absurd (ended 5 h)
 
   pub answer-taken : answer ≡ Answer′.Taken → takenAs (step R (listsOf a) m) ≡ stepBy R a m
   unfolding stepBy call takenAs

@@ -18,7 +18,7 @@ use Rattle.filing.specs.declared.Slot.{Slot}
 use Rattle.filing.specs.declared.Entry.{Entry}
 use Rattle.filing.specs.declared.Entries.{Entries}
 use Rattle.filing.specs.Slots.{RuleSlot, isUndecided, committedSlot, places, blank}
-use Rattle.filing.specs.Entries.{RuleEntry, entryOf, entriesOf, onlyEntry, most}
+use Rattle.filing.specs.Entries.{RuleEntry, entryOf, entriesOf, onlyEntry}
 use Rattle.account.specs.declared.Account.{Account}
 use Rattle.account.specs.declared.Stepped.{Stepped}
 use Rattle.account.specs.First.{panel}

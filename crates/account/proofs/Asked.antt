@@ -1,7 +1,7 @@
 -- A request that is taken, in places: it stands behind the events in progress, behind the requests held, or nowhere, by its verdict.
 -- Assumes nothing.
 use Prim.Native.Nat.{ℕ, _+_, _<_}
-use mathlib.Core.Path.{_≡_, refl, sym, ap, _∙_}
+use mathlib.Core.Path.{_≡_, sym, ap, _∙_}
 use mathlib.Core.Bool.{true}
 use mathlib.Core.List.{List, [], _∷_, _++_}
 use mathlib.Core.Option.{none}
@@ -35,7 +35,7 @@ use Rattle.account.specs.declared.outcomes.Outcomes.{Outcomes}
 use Rattle.account.specs.Places.{RuleAccount, padded, listsOf, accountOf}
 use Rattle.account.specs.First.{panel, inOrderOf}
 use Rattle.account.specs.Known.{Knows, Decides}
-use Rattle.account.specs.Taken.{listed, takenAs}
+use Rattle.account.specs.Taken.{takenAs}
 use Rattle.account.proofs.Padded.{RowOf, progress-row, held-row, state-is, account-is}
 use Rattle.account.proofs.Ordered.{ordered}
 use Rattle.account.proofs.Taken.{taken-is}

@@ -2,7 +2,6 @@
 -- Assumes nothing.
 use Prim.Native.Nat.{ℕ, _+_, _≤_, _<_}
 use mathlib.Core.Path.{_≡_, refl, sym, ap, _∙_}
-use mathlib.Core.Logic.{⊎-elim}
 use mathlib.Core.Bool.{Bool, true, false, _&&_, not, false≢true, true≢false}
 use mathlib.Core.List.{List, [], _∷_, _++_, append-nil}
 use native.Mathlib.Omega.{arith}
@@ -181,7 +180,7 @@ module _ (R : rule.Rule State Event ℕ) (start : RuleAccount) (written : List R
             stays = λ l. absurd (omega arith);
           }
 
-    pub drain-stays : isHeld (w .verdict) ≡ true → drain R (start .state) events (usedFrom at count row) ≡ still (start .state) events (usedFrom at count row)
+    drain-stays : isHeld (w .verdict) ≡ true → drain R (start .state) events (usedFrom at count row) ≡ still (start .state) events (usedFrom at count row)
     drain-stays h = drain-by ∙ by-hold here (weighingOf w) (start .state) events behind (λ (ps : List RuleSlot). drain R (start .state) ps behind) (w .verdict) h ∙ sym (ap (still (start .state) events) (used-next at count row below within))
 
   -- where one stayed held, or stays now

@@ -2,12 +2,12 @@
 -- Assumes nothing.
 use Prim.Native.Nat.{ℕ, _≤_, _<_}
 use mathlib.Core.Path.{_≡_, refl, sym, ap, _∙_}
-use mathlib.Core.Bool.{Bool, true, false, cond, not, _&&_, _||_}
+use mathlib.Core.Bool.{Bool, true, false, cond, not, _||_}
 use mathlib.Core.List.{List, [], _∷_, _++_, map}
 use mathlib.Core.Logic.{_⊎_, inl, inr}
 use mathlib.Core.Option.{none}
 use native.Mathlib.Omega.{arith}
-use lib.Dec.{ltb, lit≤}
+use lib.Dec.{lit≤}
 use lib.ListN.{length, getD}
 use lib.Seq.{set-out}
 use borrow.Author.Tests.{ltb-true}
@@ -28,7 +28,7 @@ use Rattle.filing.proofs.Filled.{length-filled}
 use Rattle.account.specs.declared.Account.{Account}
 use Rattle.account.specs.declared.Stepped.{Stepped}
 use Rattle.account.specs.Places.{RuleAccount, used, listsOf, accountOf}
-use Rattle.account.specs.First.{panel, inOrderOf}
+use Rattle.account.specs.First.{panel}
 use Rattle.account.specs.Judged.{FoundAt}
 use Rattle.account.specs.Taken.{takenAs, listed, markedAt, WithoutEvent, WithoutRequest, Settles}
 use Rattle.account.proofs.Padded.{progress-row, held-row}
@@ -74,7 +74,7 @@ module _ (a : Account) (many : length (a .progress) ≡ places) (own : Ordered p
         omega (arith, held-row left y (less (listsOf a) (own .lists)) .count′, held-row a (listsOf a) (own .lists) .count′, own .holding)
 
     module _ (rest : Account) (lesser : WithoutRequest left t rest) where
-      pub rest-is : rest ≡ accountOf leftOf
+      rest-is : rest ≡ accountOf leftOf
       rest-is = lesser (listed (listsOf a .state) (without t (listsOf a .progress)) (listsOf a .held)) (less (listsOf a) (own .lists))
 
       fewer : (xs : List RuleSlot) → length (without t xs) ≤ length xs

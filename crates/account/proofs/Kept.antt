@@ -1,9 +1,9 @@
 -- The rule's accounts in places, by any rule of the events: an account of lists is in order as they are, and steps as they do; so a step leaves an account in order, and writes no more entries than there are places for.
 -- Assumes nothing.
 use Prim.Native.Nat.{ℕ, zero, suc, _-_, _+_, _≤_}
-use mathlib.Core.Path.{_≡_, refl, sym, _∙_, ap}
-use mathlib.Core.Bool.{Bool, true, false, cond}
-use mathlib.Core.List.{List, []}
+use mathlib.Core.Path.{_≡_, refl, _∙_, ap}
+use mathlib.Core.Bool.{Bool, true, false}
+use mathlib.Core.List.{List}
 use mathlib.Core.Option.{Option, none, some}
 use native.Mathlib.Omega.{arith}
 use lib.Dec.{leb}

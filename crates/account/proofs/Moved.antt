@@ -6,7 +6,7 @@ use mathlib.Core.Path.{_≡_, refl, sym, ap, _∙_}
 use mathlib.Core.List.{List, [], _∷_, _++_, map, append-assoc}
 use native.Mathlib.Numerals.{add-one}
 use native.Mathlib.Omega.{arith}
-use lib.ListN.{length, getD, set, take, drop, replicate, replicate-append-replicate, length-append}
+use lib.ListN.{length, getD, set, drop, replicate, replicate-append-replicate}
 use lib.Seq.{drop-cons, getD-at, set-at, set-append-left}
 use Rattle.filing.specs.declared.Slot.{Slot}
 use Rattle.filing.specs.Slots.{RuleSlot, slotOf, placeOf, blank}
@@ -17,7 +17,7 @@ use Rattle.account.specs.Places.{padded}
 abbrev pub moved : List RuleSlot → ℕ → List Slot → List Slot
 moved xs at row = padded at xs ++ drop at row
 
-pub padded-more : (at : ℕ) (xs : List RuleSlot) → length xs ≤ at → padded at xs ++ (blank ∷ []) ≡ padded (at + 1) xs
+padded-more : (at : ℕ) (xs : List RuleSlot) → length xs ≤ at → padded at xs ++ (blank ∷ []) ≡ padded (at + 1) xs
 padded-more at xs h =
     let e : at + 1 - length xs ≡ at - length xs + 1 = omega arith in
     rw (append-assoc, e) (ap (λ (l : List Slot). map placeOf xs ++ l) (replicate-append-replicate (at - length xs) 1 blank))
@@ -48,7 +48,3 @@ module _ (xs : List RuleSlot) (at : ℕ) (row : List Slot) (few : length xs ≤ 
   moved-all size h e =
       let k : size - length xs ≡ at - length xs + (size - at) = omega arith in
       rw (e, append-assoc, k) (ap (λ (l : List Slot). map placeOf xs ++ l) (replicate-append-replicate (at - length xs) (size - at) blank))
-
--- no place gone through yet
-pub moved-none : (row : List Slot) → moved [] 0 row ≡ row
-moved-none row = refl

@@ -1,19 +1,17 @@
 -- Rows and lists: the row of a list has that list in its used places and blanks behind them; an account of lists has these lists.
 -- Assumes nothing.
 use Prim.Native.Nat.{ℕ, _-_}
-use mathlib.Core.Path.{_≡_, refl, sym, ap, _∙_}
+use mathlib.Core.Path.{_≡_, ap, _∙_}
 use mathlib.Core.List.{List, map}
 use lib.ListN.{length, drop, replicate}
-use Rattle.events.specs.declared.State.{State}
 use Rattle.filing.specs.declared.Slot.{Slot}
 use Rattle.filing.specs.Slots.{RuleSlot, slotOf, placeOf, places, blank}
 use Rattle.filing.proofs.Slots.{slots-places}
 use Rattle.filing.proofs.Filled.{first-filled, rest-filled}
 use Rattle.account.specs.declared.Account.{Account}
 use Rattle.account.specs.Places.{RuleAccount, used, padded, listsOf, accountOf}
-use Rattle.account.specs.Taken.{listed}
 
-pub used-padded : (size : ℕ) (xs : List RuleSlot) → used (padded size xs) (length xs) ≡ xs
+used-padded : (size : ℕ) (xs : List RuleSlot) → used (padded size xs) (length xs) ≡ xs
 used-padded size xs = ap (map slotOf) (first-filled placeOf blank size xs) ∙ slots-places xs
 
 -- the lists of the account of some lists are these lists

@@ -7,13 +7,14 @@ use mathlib.Core.List.{List, map}
 use mathlib.Core.Option.{Option, none, some}
 use native.Mathlib.Omega.{arith}
 use lib.Dec.{eqb, lit≤}
-use lib.ListN.{length, take, length-map}
+use lib.ListN.{take, length-map}
 use Rattle.rule.specs.Lists.{some-of}
 use Rattle.rule.specs.Rule as rule
 use Rattle.rule.specs.Step.{named, step}
 use Rattle.rule.specs.Call as rule-call
 use Rattle.rule.specs.Tests.{firstOf}
 use Rattle.rule.proofs.Lists.{some-map}
+use Rattle.rule.proofs.Refusals.{ended}
 use Rattle.events.specs.declared.Event.{Event}
 use Rattle.events.specs.declared.State.{State}
 use Rattle.filing.specs.declared.Filed.{Filed}
@@ -37,16 +38,13 @@ use Rattle.account.proofs.Refused.{by, refusal-same}
 use Rattle.account.proofs.Answers.{answers-apart}
 use Rattle.account.proofs.Kept.{step-few}
 
-not-both : {A : Type 0} (n : ℕ) → none ≡ some n → A
-not-both n h = let z : _≡_ {A = ℕ} 0 1 = cc in absurd (omega arith)
-
 -- a step's answer by the rule's refusal, whatever the rule
 module _ (R : rule.Rule State Event ℕ) (a : Account) (m : rule.Message Filed Event) where
   answer-by : (o : Option ℕ) → refusalIn (by R a m o .answer) ≡ o
   answer-by none = refl
   answer-by (some n) = refl
 
-  pub step-answer : refusalIn (stepBy R a m .answer) ≡ cond (not (inOrderBy R a)) (some 5) (rule-call.refusal R (listsOf a) m)
+  step-answer : refusalIn (stepBy R a m .answer) ≡ cond (not (inOrderBy R a)) (some 5) (rule-call.refusal R (listsOf a) m)
   unfolding stepBy rule-call.call
   step-answer = go (inOrderBy R a)
     where
@@ -55,7 +53,7 @@ module _ (R : rule.Rule State Event ℕ) (a : Account) (m : rule.Message Filed E
       go false = refl
 
   -- a step that is not refused is the rule's, in places
-  pub step-taken : refusalIn (stepBy R a m .answer) ≡ none
+  step-taken : refusalIn (stepBy R a m .answer) ≡ none
       → stepBy R a m ≡ takenAs (record { account = rule-call.call R (listsOf a) m .account; entries = rule-call.written (rule-call.call R (listsOf a) m .answer) })
   unfolding stepBy rule-call.call takenAs
   step-taken h = go (inOrderBy R a) (rule-call.refusal R (listsOf a) m) (sym step-answer ∙ h)
@@ -68,8 +66,8 @@ module _ (R : rule.Rule State Event ℕ) (a : Account) (m : rule.Message Filed E
             entries = rule-call.written (rule-call.callBy o (listsOf a) (step R (listsOf a) m) .answer);
           })
       go true none k = refl
-      go true (some n) k = not-both n (sym k)
-      go false o k = not-both 5 (sym k)
+      go true (some n) k = absurd (ended n (sym k))
+      go false o k = absurd (ended 5 (sym k))
 
   -- a step that is refused leaves the account and writes nothing
   step-same : (n : ℕ) → refusalIn (stepBy R a m .answer) ≡ some n → stepBy R a m ≡ refusedBy a n

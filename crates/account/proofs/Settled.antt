@@ -23,7 +23,6 @@ use Rattle.filing.specs.declared.Entry.{Entry}
 use Rattle.filing.specs.declared.Entries.{Entries}
 use Rattle.filing.specs.Slots.{RuleSlot, slotOf, decisionOf, isUndecided, blank}
 use Rattle.filing.specs.Entries.{RuleEntry, entryOf, entriesOf, most}
-use Rattle.account.specs.Taken.{RuleStep, takenAs}
 use Rattle.account.proofs.Taken.{entries-with, after-after}
 use Rattle.account.proofs.Slices.{usedFrom, used-end, used-next}
 

@@ -1,9 +1,9 @@
 -- A step that is taken, in places: its account and its entries, and the entries one after the other.
 -- Assumes nothing.
-use Prim.Native.Nat.{ℕ, _+_, _<_}
-use mathlib.Core.Path.{_≡_, refl, sym, ap, _∙_}
+use Prim.Native.Nat.{_+_, _<_}
+use mathlib.Core.Path.{_≡_, sym, ap}
 use mathlib.Core.List.{List, [], _∷_, _++_, append-assoc}
-use lib.ListN.{length, set, length-append}
+use lib.ListN.{set, length-append}
 use Rattle.rule.specs.Rule as rule
 use Rattle.rule.specs.Step.{Step, after}
 use Rattle.filing.specs.declared.Entry.{Entry}

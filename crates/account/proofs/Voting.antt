@@ -17,7 +17,6 @@ use Rattle.rule.specs.InOrder.{withoutDecision, guarded}
 use Rattle.rule.proofs.Lists.{and-left, and-right}
 use Rattle.events.specs.declared.State.{State}
 use Rattle.filing.specs.declared.Filed.{Filed}
-use Rattle.filing.specs.declared.Slot.{Slot}
 use Rattle.filing.specs.declared.Weighing.{Weighing}
 use Rattle.filing.specs.declared.Entry.{Entry}
 use Rattle.filing.specs.declared.Entries.{Entries}

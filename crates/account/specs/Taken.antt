@@ -3,7 +3,7 @@
 use Prim.Native.Nat.{ℕ, _<_}
 use mathlib.Core.Path.{_≡_}
 use mathlib.Core.Bool.{true}
-use mathlib.Core.List.{List, [], _∷_, _++_}
+use mathlib.Core.List.{List, [], _∷_}
 use lib.ListN.{getD, set}
 use Rattle.rule.specs.Lists.{every}
 use Rattle.rule.specs.InOrder.{withoutDecision, guarded}
@@ -14,7 +14,7 @@ use Rattle.filing.specs.declared.Filed.{Filed}
 use Rattle.filing.specs.declared.Slot.{Slot}
 use Rattle.filing.specs.declared.Entry.{Entry}
 use Rattle.filing.specs.declared.Entries.{Entries}
-use Rattle.filing.specs.Slots.{RuleSlot, slotOf, committedSlot, places, blank}
+use Rattle.filing.specs.Slots.{RuleSlot, committedSlot, places, blank}
 use Rattle.filing.specs.Entries.{RuleEntry, entryOf, entriesOf}
 use Rattle.account.specs.declared.Account.{Account}
 use Rattle.account.specs.declared.Answer.the-variants as Answer′

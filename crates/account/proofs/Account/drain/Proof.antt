@@ -1,16 +1,14 @@
 -- The loop's invariant says how far the requests are voted on; each of the three ways through the body is a law, and so is the way's end.
 -- Assumes nothing.
 use Prim.Native.Nat.{_-_, _<_}
-use mathlib.Core.Path.{_≡_, refl, sym, _∙_}
+use mathlib.Core.Path.{_≡_, sym, _∙_}
 use mathlib.Core.Logic.{⊎-elim}
 use mathlib.Core.Bool.{true}
 use native.Mathlib.Omega.{arith}
 use lib.ListN.{length}
 use borrow.Author.Needs.{needs}
 use Rattle.filing.specs.Entries.{isAccepted}
-use Rattle.account.specs.First.{panel}
-use Rattle.account.specs.Places.{used}
-use Rattle.account.proofs.Places.{as-many, count-used}
+use Rattle.account.proofs.Places.{as-many}
 use Rattle.account.proofs.Known.{knows-few}
 use Rattle.account.proofs.Voting.{Voting, voting-none, voting-stays, voting-accept, voting-reject, voting-all, drained-idle}
 use Rattle.account.proofs.Account.drain.Statement.{statement}
@@ -64,7 +62,9 @@ mul-slot-2 c = search needs
 accepted : (c : tie.Then4 Inv-loop μ-loop) → isAccepted (c .before .before .before .before .decide .result .verdict) ≡ true
 accepted c = sym (c .before .is-accepted .ensures) ∙ c .if4 .taken
 
-free : (c : tie.Then4 Inv-loop μ-loop) → let v = (c .before .before .before) .before .before .before .before .before .loop in v .next .progressing < 8
+free : (c : tie.Then4 Inv-loop μ-loop) →
+    let test = c .before .before .before in
+    test .before .before .before .before .before .loop .next .progressing < 8
 free c = c .before .before .before .before .decide .ensures .free (accepted c)
 
 element-set-from-slot : tie.Need-element-set-from-slot Inv-loop μ-loop
@@ -74,7 +74,10 @@ add-next : tie.Need-add-next Inv-loop μ-loop
 add-next c = search needs
 
 with-requires : tie.Need-with-requires Inv-loop μ-loop
-with-requires c κs = let v = (c .before .before .before) .before .before .before .before .before .loop in knows-few _ (v .inv .events) (v .outcomes) (v .inv .knows) (omega (arith, free c, v .inv .number))
+with-requires c κs =
+    let test = c .before .before .before in
+    let v = test .before .before .before .before .before .loop in
+    knows-few _ (v .inv .events) (v .outcomes) (v .inv .knows) (omega (arith, free c, v .inv .number))
 
 voted-requires : tie.Need-voted-requires Inv-loop μ-loop
 voted-requires c κs = search needs

@@ -1,13 +1,11 @@
 -- What is refused is refused by what judging found; what is taken goes by its vote.
 -- Assumes nothing.
 use Prim.Native.Nat.{_<_}
-use mathlib.Core.Path.{_≡_, refl, sym, ap, _∙_}
+use mathlib.Core.Path.{_≡_, ap, _∙_}
 use mathlib.Core.Logic.{⊎-elim}
-use mathlib.Core.Bool.{true, cond}
+use mathlib.Core.Bool.{cond}
 use mathlib.Core.Option.{some}
 use native.Mathlib.Omega.{arith}
-use lib.Dec.{lit≤}
-use lib.ListN.{length}
 use borrow.Author.Needs.{needs}
 use Rattle.rule.specs.Rule.{request, voted}
 use Rattle.rule.specs.Call.{refusal}
@@ -51,18 +49,23 @@ returns c =
     let a = answered .before .before .args in
     c .refused .ensures ∙ answer-refused panel (a .self) (request (a .transaction) (a .filed) (a .event)) (answered .answer .result) (says answered) _ (c .before .enum-told2 .given .1)
 
--- past that the account is in order, and the weighing is the rule's
-weighed : (c : tie.After-decide-behind) → let a = c .before .before .before .before .before .before .args in Weighed (a .self) (a .event) (c .decide-behind .result)
+-- past it the account is in order, and the weighing is the rule's
+weighed : (c : tie.After-decide-behind) →
+    let told = c .before .before in
+    let a = told .before .before .before .before .args in
+    Weighed (a .self) (a .event) (c .decide-behind .result)
 weighed c =
     let told = c .before .before in
     let answered = told .before .before in
     let judged = answered .before in
     let start = judged .before in
     let a = start .args in
+    let size = as-many (a .self .progress) (start .good .0 .1 .1 .1 .0 .1 .0 .1) in
+    let sizeHeld = as-many (a .self .held) (start .good .0 .1 .1 .1 .1 .1 .0 .1 .0 .1) in
     let message = request (a .transaction) (a .filed) (a .event) in
     let taken = answer-order panel (a .self) message (answered .answer .result) (says answered) (told .enum-told .given .1) in
-    request-weighed (a .self) (as-many (a .self .progress) (start .good .0 .1 .1 .1 .0 .1 .0 .1)) (as-many (a .self .held) (start .good .0 .1 .1 .1 .1 .1 .0 .1 .0 .1))
-    (a .transaction) (a .filed) (a .event) (taken .0) (taken .1) (judged .judge .result .outcomes) (judged .judge .ensures .knows (taken .0)) (c .decide-behind .result) (c .decide-behind .ensures)
+    let found = judged .judge in
+    request-weighed (a .self) size sizeHeld (a .transaction) (a .filed) (a .event) (taken .0) (taken .1) (found .result .outcomes) (found .ensures .knows (taken .0)) (c .decide-behind .result) (c .decide-behind .ensures)
 
 decide-behind-requires : tie.Need-decide-behind-requires
 decide-behind-requires c κs = search needs
@@ -70,7 +73,10 @@ decide-behind-requires c κs = search needs
 enum-told-3 : tie.Need-enum-told-3
 enum-told-3 c = search needs
 
-free : (c : tie.After-enum-told3) → let a = c .before .before .before .before .before .before .before .before .args in a .self .progressing < 8
+-- where it is accepted a place is free
+free : (c : tie.After-enum-told3) →
+    let told = (c .before .before) .before .before in
+    told .before .before .before .before .args .self .progressing < 8
 free c = weighed (c .before .before) .free (ap isAccepted (c .enum-told3 .given .1))
 
 mul-slot : tie.Need-mul-slot
@@ -114,12 +120,16 @@ returns-2 c =
     let taken = told .enum-told .given .1 in
     let message = request (a .transaction) (a .filed) (a .event) in
     let entries : c .only .result ≡ onlyEntry (entryOf (voted (a .transaction) (a .filed) (a .event) (weighingOf (weighing .decide-behind .result)))) = c .only .ensures ∙ ap onlyEntry (c .before .voted .ensures) in
+    let self = a .self in
+    let lists = listsOf self in
+    let w = weighing .decide-behind .result in
     rw taken
     (⊎-elim
-    (λ w. rw (w .2) (asked-accept panel (a .self) (listsOf (a .self)) (known .lists) (a .transaction) (a .filed) (a .event) (weighing .decide-behind .result) (known .decided) (c .only .result) entries (w .1 .given .1) (known .free (ap isAccepted (w .1 .given .1)))))
-    (λ y. ⊎-elim
-    (λ w. rw (w .2) (asked-reject panel (a .self) (listsOf (a .self)) (known .lists) (a .transaction) (a .filed) (a .event) (weighing .decide-behind .result) (known .decided) (c .only .result) entries (w .1 .given .1)))
-    (λ w. rw (w .2) (asked-hold panel (a .self) (listsOf (a .self)) (known .lists) (a .transaction) (a .filed) (a .event) (weighing .decide-behind .result) (known .decided) (c .only .result) entries (w .1 .given .1) (known .room)))
+    (λ u. let v = u .1 .given .1 in rw (u .2) (asked-accept panel self lists (known .lists) (a .transaction) (a .filed) (a .event) w (known .decided) (c .only .result) entries v (known .free (ap isAccepted v))))
+    (λ y.
+    ⊎-elim
+    (λ u. rw (u .2) (asked-reject panel self lists (known .lists) (a .transaction) (a .filed) (a .event) w (known .decided) (c .only .result) entries (u .1 .given .1)))
+    (λ u. rw (u .2) (asked-hold panel self lists (known .lists) (a .transaction) (a .filed) (a .event) w (known .decided) (c .only .result) entries (u .1 .given .1) (known .room)))
     y)
     (join .match2 .came))
     ∙ answer-taken panel (a .self) message (answered .answer .result) (says answered) taken
