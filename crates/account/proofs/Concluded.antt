@@ -27,7 +27,7 @@ use Rattle.account.specs.Known.{Knows}
 use Rattle.account.specs.Judged.{allDiffer, Judges}
 use Rattle.account.proofs.Clauses as ordered
 use Rattle.account.proofs.Sought.{lastNamed, only-found}
-use Rattle.account.proofs.Passed.{transactionIn, EventsPassed, BlanksPassed, RequestsPassed, blanks-end}
+use Rattle.account.proofs.Passed.{transactionIn, EventsPassed, RequestsPassed}
 
 -- transactions as numbers
 some-transaction : (t : ℕ) (xs : List Slot) → some-of (λ (n : ℕ). eqb t n) (map transactionIn xs) ≡ some-of (named t) (map slotOf xs)
@@ -52,19 +52,22 @@ module _ (R : rule.Rule State Event ℕ) (a : Account) where
   within : (row : List Slot) (count most : ℕ) → count ≤ most → leb (length (used row count)) most ≡ true
   within row count most h = le-leb (length (used row count)) most (omega (arith, length-map (take count row) slotOf, length-take count row))
 
-  -- what was asked of the events, of the blanks behind them, of the requests, of the blanks behind those; the last of the requests' clauses counts where the guards hold
-  module _ (events blanks requests all guards differ : Bool)
-      (few : a .progressing ≤ R .progressLimit) (fewHeld : a .holding ≤ R .heldLimit)
-      (askedEvents : events ≡ (R .fits (a .state) && rule-order.oldestUndecided (used (a .progress) (a .progressing))))
-      (askedBlanks : blanks ≡ (events && every isBlank (drop (a .progressing) (a .progress))))
-      (askedRequests : guards ≡ true → requests
-      ≡ (blanks
-      && (every rule-order.withoutDecision (used (a .held) (a .holding))
-      && rule-order.oldestStaysHeld R (a .state) (used (a .progress) (a .progressing)) (used (a .held) (a .holding)))))
-      (askedAll : all ≡ (requests && every isBlank (drop (a .holding) (a .held))))
-      (askedGuards : guards ≡ rule-order.guarded R (a .state) [] (used (a .progress) (a .progressing)))
-      (askedDiffer : differ ≡ rule-order.apart (used (a .progress) (a .progressing) ++ used (a .held) (a .holding)))
-      where
+  -- what was asked of the events, of the blanks behind them, of the requests, of the blanks behind those; the requests' clauses count where the guards hold
+  record Asked (events blanks requests all guards differ : Bool) : Type 0 where
+    few : a .progressing ≤ R .progressLimit
+    fewHeld : a .holding ≤ R .heldLimit
+    ofEvents : events ≡ (R .fits (a .state) && rule-order.oldestUndecided (used (a .progress) (a .progressing)))
+    ofBlanks : blanks ≡ (events && every isBlank (drop (a .progressing) (a .progress)))
+    ofRequests : guards ≡ true
+        → requests
+        ≡ (blanks
+        && (every rule-order.withoutDecision (used (a .held) (a .holding))
+        && rule-order.oldestStaysHeld R (a .state) (used (a .progress) (a .progressing)) (used (a .held) (a .holding))))
+    ofAll : all ≡ (requests && every isBlank (drop (a .holding) (a .held)))
+    ofGuards : guards ≡ rule-order.guarded R (a .state) [] (used (a .progress) (a .progressing))
+    ofTransactions : differ ≡ rule-order.apart (used (a .progress) (a .progressing) ++ used (a .held) (a .holding))
+
+  module _ (events blanks requests all guards differ : Bool) (q : Asked events blanks requests all guards differ) where
     holds : (all && guards && differ) ≡ true → inOrderBy R a ≡ true
     unfolding listsOf
     holds h =
@@ -76,25 +79,25 @@ module _ (R : rule.Rule State Event ℕ) (a : Account) where
         let c6 = every isBlank (drop (a .holding) (a .held)) in
         let h1 = and-left (all && guards) differ h in
         let g = and-right all guards h1 in
-        let h2 = sym askedAll ∙ and-left all guards h1 in
-        let h3 = sym (askedRequests g) ∙ and-left requests c6 h2 in
+        let h2 = sym (q .ofAll) ∙ and-left all guards h1 in
+        let h3 = sym (q .ofRequests g) ∙ and-left requests c6 h2 in
         let h4 = and-right blanks (c4 && c5) h3 in
-        let h5 = sym askedBlanks ∙ and-left blanks (c4 && c5) h3 in
-        let h6 = sym askedEvents ∙ and-left events c3 h5 in
+        let h5 = sym (q .ofBlanks) ∙ and-left blanks (c4 && c5) h3 in
+        let h6 = sym (q .ofEvents) ∙ and-left events c3 h5 in
         ordered.clauses-order R a
         (record {
-          progressing = few;
-          holding = fewHeld;
+          progressing = q .few;
+          holding = q .fewHeld;
           blanks = and-right events c3 h5;
           blanksHeld = and-right requests c6 h2;
           lists =
               clauses-order R (listsOf a)
               (record {
-                counts = and-both _ _ (within (a .progress) (a .progressing) (R .progressLimit) few) (within (a .held) (a .holding) (R .heldLimit) fewHeld);
+                counts = and-both _ _ (within (a .progress) (a .progressing) (R .progressLimit) (q .few)) (within (a .held) (a .holding) (R .heldLimit) (q .fewHeld));
                 state = and-left c1 c2 h6;
-                transactions = sym askedDiffer ∙ and-right (all && guards) differ h;
+                transactions = sym (q .ofTransactions) ∙ and-right (all && guards) differ h;
                 decisions = and-left c4 c5 h4;
-                guards = sym askedGuards ∙ g;
+                guards = sym (q .ofGuards) ∙ g;
                 oldest = and-right c1 c2 h6;
                 stays = and-right c4 c5 h4;
               });
@@ -105,14 +108,14 @@ module _ (R : rule.Rule State Event ℕ) (a : Account) where
     asked h =
         let p = ordered.clauses R a h in
         let k = ordered.rule-clauses R a h in
-        let g = askedGuards ∙ k .guards in
-        let h1 = askedEvents ∙ and-both _ _ (k .state) (k .oldest) in
-        let h2 = askedBlanks ∙ and-both _ _ h1 (p .blanks) in
-        let h3 = askedRequests g ∙ and-both _ _ h2 (and-both _ _ (k .decisions) (k .stays)) in
-        let h4 = askedAll ∙ and-both _ _ h3 (p .blanksHeld) in
-        and-both (all && guards) differ (and-both all guards h4 g) (askedDiffer ∙ k .transactions)
+        let g = q .ofGuards ∙ k .guards in
+        let h1 = q .ofEvents ∙ and-both _ _ (k .state) (k .oldest) in
+        let h2 = q .ofBlanks ∙ and-both _ _ h1 (p .blanks) in
+        let h3 = q .ofRequests g ∙ and-both _ _ h2 (and-both _ _ (k .decisions) (k .stays)) in
+        let h4 = q .ofAll ∙ and-both _ _ h3 (p .blanksHeld) in
+        and-both (all && guards) differ (and-both all guards h4 g) (q .ofTransactions ∙ k .transactions)
 
-    pub judged-order : (all && guards && differ) ≡ inOrderBy R a
+    judged-order : (all && guards && differ) ≡ inOrderBy R a
     judged-order = same-test (all && guards && differ) (inOrderBy R a) holds asked
 
   -- counts beyond the places are not in order
@@ -135,65 +138,71 @@ module _ (a : Account) (t : ℕ) (outcomes : Outcomes) where
         slot = λ e. absurd (no e);
       }
 
-  -- and of any other, past all its places
-  module _ (event request : ℕ) (foundEvent found : Slot) (events blanks requests all differ : Bool) (listed listedAll : List ℕ) (at1 at2 at3 at4 : ℕ)
-      (many : length (a .progress) ≡ places) (manyHeld : length (a .held) ≡ places) (few : a .progressing ≤ places) (fewHeld : a .holding ≤ places)
-      (knows : Knows (a .state) (used (a .progress) at1) outcomes)
-      (e1 : a .progressing ≤ at1) (k1 : EventsPassed panel a t event foundEvent events listed at1)
-      (e2 : places ≤ at2) (k2 : BlanksPassed (a .progress) events at1 blanks at2)
-      (e3 : a .holding ≤ at3) (k3 : RequestsPassed panel a t (outcomes .guarded) foundEvent blanks listed request found requests listedAll at3)
-      (e4 : places ≤ at4) (k4 : BlanksPassed (a .held) requests at3 all at4)
-      (asked : differ ≡ allDiffer (take (a .progressing + a .holding) listedAll))
-      where
-    ends : at1 ≡ a .progressing
-    ends = omega (arith, k1 .within)
+-- and of any other, past all its places
+pub record AllPassed (a : Account) (t : ℕ) (outcomes : Outcomes) (event request : ℕ) (found : Slot) (all differ : Bool) : Type 0 where
+  pub many : length (a .progress) ≡ places
+  pub manyHeld : length (a .held) ≡ places
+  pub few : a .progressing ≤ places
+  pub fewHeld : a .holding ≤ places
+  -- what was found of the events in progress, with the clauses so far and the transactions noted,
+  pub foundEvent : Slot
+  pub events : Bool
+  pub listed : List ℕ
+  pub knows : Knows (a .state) (used (a .progress) (a .progressing)) outcomes
+  pub passed : EventsPassed panel a t event foundEvent events listed (a .progressing)
+  -- behind them,
+  pub blanks : Bool
+  pub blank : blanks ≡ (events && every isBlank (drop (a .progressing) (a .progress)))
+  -- of the requests held,
+  pub requests : Bool
+  pub listedAll : List ℕ
+  pub passedHeld : RequestsPassed panel a t (outcomes .guarded) foundEvent blanks listed request found requests listedAll (a .holding)
+  -- and behind those
+  pub blankHeld : all ≡ (requests && every isBlank (drop (a .holding) (a .held)))
+  pub differs : differ ≡ allDiffer (take (a .progressing + a .holding) listedAll)
 
-    endsHeld : at3 ≡ a .holding
-    endsHeld = omega (arith, k3 .within)
+module _ (a : Account) (t : ℕ) (outcomes : Outcomes) (event request : ℕ) (found : Slot) (all differ : Bool) (k : AllPassed a t outcomes event request found all differ) where
+  abbrev xs : List Slot
+  xs = take (a .progressing) (a .progress)
 
-    abbrev xs : List Slot
-    xs = take (a .progressing) (a .progress)
+  abbrev ys : List Slot
+  ys = take (a .holding) (a .held)
 
-    abbrev ys : List Slot
-    ys = take (a .holding) (a .held)
+  all-apart : differ ≡ rule-order.apart (map slotOf xs ++ map slotOf ys)
+  all-apart =
+      k .differs ∙ ap allDiffer (k .passedHeld .listed .noted ∙ ap (λ (l : List ℕ). l ++ map transactionIn ys) (k .passed .listed .noted)) ∙ lists-apart xs ys
 
-    passed : EventsPassed panel a t event foundEvent events listed (a .progressing)
-    passed = rw ends at k1
+  ordered-as : (all && outcomes .guarded && differ) ≡ inOrderOf a
+  ordered-as =
+      judged-order panel a (k .events) (k .blanks) (k .requests) all (outcomes .guarded) differ
+      (record {
+        few = k .few;
+        fewHeld = k .fewHeld;
+        ofEvents = k .passed .clauses;
+        ofBlanks = k .blank;
+        ofRequests = k .passedHeld .clauses;
+        ofAll = k .blankHeld;
+        ofGuards = k .knows .guards;
+        ofTransactions = all-apart;
+      })
 
-    passedHeld : RequestsPassed panel a t (outcomes .guarded) foundEvent blanks listed request found requests listedAll (a .holding)
-    passedHeld = rw endsHeld at k3
+  only-one : inOrderOf a ≡ true → (some-of (named t) (map slotOf xs) || some-of (named t) (map slotOf ys)) ≡ true
+      → keep (named t) (map slotOf xs) ++ keep (named t) (map slotOf ys) ≡ slotOf found ∷ []
+  unfolding listsOf
+  only-one h q =
+      let both = map-append slotOf xs ys in
+      let apart = ap rule-order.apart both ∙ ordered.rule-clauses panel a h .transactions in
+      let stands = ap (some-of (named t)) both ∙ some-append (named t) (map slotOf xs) (map slotOf ys) ∙ q in
+      let last = k .passedHeld .sought .last ∙ ap (λ (x : Slot). lastNamed t x ys) (k .passed .sought .last) in
+      sym (keep-append (named t) (map slotOf xs) (map slotOf ys)) ∙ ap (keep (named t)) (sym both) ∙ only-found t xs ys found last apart stands
 
-    known : Knows (a .state) (used (a .progress) (a .progressing)) outcomes
-    known = rw ends at knows
-
-    differs : differ ≡ rule-order.apart (map slotOf xs ++ map slotOf ys)
-    differs = asked ∙ ap allDiffer (passedHeld .listed .noted ∙ ap (λ (l : List ℕ). l ++ map transactionIn ys) (passed .listed .noted)) ∙ lists-apart xs ys
-
-    ordered-as : (all && outcomes .guarded && differ) ≡ inOrderOf a
-    ordered-as =
-        judged-order panel a events blanks requests all (outcomes .guarded) differ few fewHeld (passed .clauses)
-        (blanks-end (a .progress) events (a .progressing) blanks at2 e2 many (rw ends at k2))
-        (passedHeld .clauses)
-        (blanks-end (a .held) requests (a .holding) all at4 e4 manyHeld (rw endsHeld at k4))
-        (known .guards)
-        differs
-
-    only-one : inOrderOf a ≡ true → (some-of (named t) (map slotOf xs) || some-of (named t) (map slotOf ys)) ≡ true → keep (named t) (map slotOf xs) ++ keep (named t) (map slotOf ys) ≡ slotOf found ∷ []
-    unfolding listsOf
-    only-one h q =
-        let both = map-append slotOf xs ys in
-        let apart = ap rule-order.apart both ∙ ordered.rule-clauses panel a h .transactions in
-        let named-there = ap (some-of (named t)) both ∙ some-append (named t) (map slotOf xs) (map slotOf ys) ∙ q in
-        sym (keep-append (named t) (map slotOf xs) (map slotOf ys)) ∙ ap (keep (named t)) (sym both)
-        ∙ only-found t xs ys found (passedHeld .sought .last ∙ ap (λ (x : Slot). lastNamed t x ys) (passed .sought .last)) apart named-there
-
-    pub judges-all : Judges a t (record { outcomes = outcomes; slot = found; event = event; request = request; in_order = all && outcomes .guarded && differ })
-    unfolding listsOf
-    judges-all =
-        record {
-          ordered = ordered-as;
-          knows = λ h. known;
-          event = λ h. passed .sought .stands;
-          request = λ h. passedHeld .sought .stands;
-          slot = only-one;
-        }
+  pub judges-all : Judges a t (record { outcomes = outcomes; slot = found; event = event; request = request; in_order = all && outcomes .guarded && differ })
+  unfolding listsOf
+  judges-all =
+      record {
+        ordered = ordered-as;
+        knows = λ h. k .knows;
+        event = λ h. k .passed .sought .stands;
+        request = λ h. k .passedHeld .sought .stands;
+        slot = only-one;
+      }

@@ -3,16 +3,12 @@
 use Prim.Native.Nat.{ℕ, _≤_, _<_}
 use mathlib.Core.Path.{_≡_, refl, sym, _∙_, ap}
 use mathlib.Core.Logic.{inl, inr, ⊎-elim}
-use mathlib.Core.Bool.{Bool, true, false, _&&_, true≢false}
+use mathlib.Core.Bool.{Bool, true, false, true≢false}
 use mathlib.Core.List.{List, [], _∷_, _++_, map}
 use native.Mathlib.Omega.{arith}
-use lib.Dec.{leb}
 use lib.ListN.{length, take, length-map, length-take}
-use borrow.Author.Tests.{le-leb}
-use Rattle.rule.specs.Lists.{every}
 use Rattle.rule.specs.Rule as rule
-use Rattle.rule.specs.InOrder as rule-order
-use Rattle.rule.proofs.Lists.{and-left, and-right, map-append, every-parts, parts-every}
+use Rattle.rule.proofs.Lists.{map-append, every-parts, parts-every}
 use Rattle.rule.proofs.InOrderExactly.{in-order-exactly}
 use Rattle.events.specs.declared.Event.{Event}
 use Rattle.filing.specs.declared.Decision.{Decision}

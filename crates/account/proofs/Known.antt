@@ -109,5 +109,5 @@ knows-few s xs o k h =
     omega (arith, k .number, outcomes-length panel xs s)
 
 -- at the last place, all of them
-pub knows-end : (s : State) (row : List Slot) (o : Outcomes) (at count : ℕ) → at ≤ count → count ≤ at → Knows s (used row at) o → Knows s (used row count) o
-knows-end s row o at count h l k = let e : at ≡ count = omega arith in rw e at k
+pub knows-end : (s : State) (row : List Slot) (o : Outcomes) (at count : ℕ) → at ≡ count → Knows s (used row at) o → Knows s (used row count) o
+knows-end s row o at count e k = rw e at k

@@ -93,10 +93,11 @@ blanks-more row before first ordered here at h many e k =
     }
 
 -- and past the last place all of them are
-pub blanks-end : (row : List Slot) (before : Bool) (first : ℕ) (ordered : Bool) (at : ℕ) → places ≤ at → length row ≡ places → BlanksPassed row before first ordered at
-    → ordered ≡ (before && every isBlank (drop first row))
-blanks-end row before first ordered at h many k =
+pub blanks-end : (row : List Slot) (before : Bool) (first count : ℕ) (ordered : Bool) (at : ℕ) → first ≡ count → places ≤ at → length row ≡ places → BlanksPassed row before first ordered at
+    → ordered ≡ (before && every isBlank (drop count row))
+blanks-end row before first count ordered at e h many k =
     sym (and-true ordered) ∙ ap (λ (l : List Slot). ordered && every isBlank l) (sym (drop-of-length-le row {i = at} (omega arith))) ∙ k .rest
+    ∙ ap (λ (n : ℕ). before && every isBlank (drop n row)) e
 
 -- a test of the rule's slot is one of the place's own decision
 undecided-first : (d : Decision) (t : ℕ) (g : Filed) (e : Event) → oldestUndecided (rule.slot t g e (decisionOf d) ∷ []) ≡ isUndecided d
@@ -213,3 +214,14 @@ module _ (R : rule.Rule State Event ℕ) (a : Account) (t : ℕ) where
           sought = sought;
           listed = noted-more (take (a .progressing) listedBefore) (a .held) at (a .progressing + at) (a .progressing + (at + 1)) transactions (omega arith) (omega arith) (omega arith) (k .listed);
         }
+
+-- past the last place of each row
+module _ (R : rule.Rule State Event ℕ) (a : Account) (t : ℕ) where
+  pub events-end : (event : ℕ) (found : Slot) (ordered : Bool) (transactions : List ℕ) (at : ℕ) → at ≡ a .progressing
+      → EventsPassed R a t event found ordered transactions at → EventsPassed R a t event found ordered transactions (a .progressing)
+  events-end event found ordered transactions at e k = rw e at k
+
+  pub requests-end : (guarded : Bool) (foundBefore : Slot) (before : Bool) (listedBefore : List ℕ) (request : ℕ) (found : Slot) (ordered : Bool) (transactions : List ℕ) (at : ℕ) → at ≡ a .holding
+      → RequestsPassed R a t guarded foundBefore before listedBefore request found ordered transactions at
+      → RequestsPassed R a t guarded foundBefore before listedBefore request found ordered transactions (a .holding)
+  requests-end guarded foundBefore before listedBefore request found ordered transactions at e k = rw e at k

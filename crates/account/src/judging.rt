@@ -75,7 +75,9 @@ impl Account {
             let slot = self.held[at];
             let waiting = slot.event;
             let decision = slot.decision;
-            in_order = in_order & decision.is_undecided() & ((0 < at) | outcomes.stays_held(progressing, waiting));
+            in_order = in_order
+                & decision.is_undecided()
+                & ((0 < at) | outcomes.stays_held(progressing, waiting));
             transactions[progressing + at] = slot.transaction;
             if transaction == slot.transaction {
                 request = at;

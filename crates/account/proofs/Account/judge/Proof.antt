@@ -16,19 +16,10 @@ use Rattle.account.specs.Known.{Knows}
 use Rattle.account.proofs.Places.{as-many, used-more, count-used}
 use Rattle.account.proofs.Known.{knows-few, knows-end}
 use Rattle.account.proofs.Sought.{sought-here, sought-else}
-use Rattle.account.proofs.Passed.{EventsPassed, BlanksPassed, RequestsPassed, events-none, events-more, blanks-more, requests-none, requests-more}
+use Rattle.account.proofs.Passed.{EventsPassed, BlanksPassed, RequestsPassed, events-none, events-more, events-end, blanks-more, blanks-end, requests-none, requests-more, requests-end}
 use Rattle.account.proofs.Concluded.{judges-beyond, judges-all}
 use Rattle.account.proofs.Account.judge.Statement.{statement}
 use Rattle.account.proofs.Account.judge.Tie as tie
-use Rattle.account.proofs.Account.judge.Reads as reads
-use Rattle.account.proofs.Account.judge.Lts as lts
-use Rattle.account.proofs.judging.differ.Reads as differ-reads
-use Rattle.account.proofs.outcomes.Outcomes.of.Reads as of-reads
-use Rattle.account.proofs.outcomes.Outcomes.stays_held.Reads as stays-held-reads
-use Rattle.account.proofs.outcomes.Outcomes.with.Reads as with-reads
-use Rattle.events.proofs.State.fits.Reads as fits-reads
-use Rattle.filing.proofs.Decision.is_undecided.Reads as is-undecided-reads
-use Rattle.filing.proofs.Slot.is_blank.Reads as is-blank-reads
 
 abbrev Inv-loop : tie.InvT-loop
 Inv-loop transaction self progressing holding outcomes₀ event₀ request found₀ in-order₀ transactions₀ at₀ outcomes event found in-order transactions at =
@@ -81,15 +72,19 @@ events-loop c = c .before .before .before .before
 abbrev counted : tie.At-loop Inv-loop μ-loop Inv-loop2 μ-loop2 Inv-loop3 μ-loop3 Inv-loop4 μ-loop4 → tie.Else1 Inv-loop μ-loop Inv-loop2 μ-loop2 Inv-loop3 μ-loop3 Inv-loop4 μ-loop4
 counted c = c .before .before
 
--- past the events' loop all their outcomes are known
-all-known : (c : tie.At-loop3 Inv-loop μ-loop Inv-loop2 μ-loop2 Inv-loop3 μ-loop3 Inv-loop4 μ-loop4)
-    → Knows (counted (events-loop c) .before .before .before .args .t1 .state)
-    (used (counted (events-loop c) .before .before .before .args .t1 .progress) (counted (events-loop c) .before .before .before .args .t1 .progressing))
-    (events-loop c .loop .outcomes)
+-- past the events' loop all of them are passed, and their outcomes are known
+abbrev begun : tie.After-loop Inv-loop μ-loop Inv-loop2 μ-loop2 Inv-loop3 μ-loop3 Inv-loop4 μ-loop4 → tie.Start Inv-loop μ-loop Inv-loop2 μ-loop2 Inv-loop3 μ-loop3 Inv-loop4 μ-loop4
+begun c = counted (c .before) .before .before .before
+
+events-passed : (c : tie.After-loop Inv-loop μ-loop Inv-loop2 μ-loop2 Inv-loop3 μ-loop3 Inv-loop4 μ-loop4) → c .before .loop .at ≡ begun c .args .t1 .progressing
+events-passed c = omega (arith, c .before .loop .inv .1 .within, c .loop-test .left)
+
+all-known : (c : tie.After-loop Inv-loop μ-loop Inv-loop2 μ-loop2 Inv-loop3 μ-loop3 Inv-loop4 μ-loop4)
+    → Knows (begun c .args .t1 .state) (used (begun c .args .t1 .progress) (begun c .args .t1 .progressing)) (c .before .loop .outcomes)
 all-known c =
-    let a = counted (events-loop c) .before .before .before .args .t1 in
-    let v = events-loop c .loop in
-    knows-end (a .state) (a .progress) (v .outcomes) (v .at) (a .progressing) (v .inv .1 .within) (c .before .before .before .loop-test .left) (v .inv .0)
+    let a = begun c .args .t1 in
+    let v = c .before .loop in
+    knows-end (a .state) (a .progress) (v .outcomes) (v .at) (a .progressing) (events-passed c) (v .inv .0)
 
 of-requires :
     tie.Need-of-requires Inv-loop μ-loop Inv-loop2 μ-loop2 Inv-loop3 μ-loop3 Inv-loop4 μ-loop4
@@ -189,7 +184,7 @@ loop-again c =
     let added = c .before .before in (
       rw (used-more (a .progress) (v .at) blank room) (added .with .ensures (a .state) (used (a .progress) (v .at)) (x .transaction) (x .filed) (v .inv .0)),
       events-more panel a t (v .event) (v .found) (v .in-order) (v .transactions) (v .at) less few (rows start .0) (v .inv .1) (c .if2 .event) (c .if2 .found) sought
-      (added .before .is-undecided .result) (added .before .is-undecided .ensures),
+          (added .before .is-undecided .result) (added .before .is-undecided .ensures),
     )
 
 loop2-holds :
@@ -353,7 +348,7 @@ loop3-again c =
     let asked = c .before .before in
     requests-more panel a t (w .outcomes .guarded) (w .found) _ (w .transactions) (v .request) (v .found) (v .in-order) (v .transactions) (v .at) less (few .0) (few .1) (rows start .1) (v .inv)
     (c .if3 .request) (c .if3 .found) sought (asked .before .is-undecided2 .result) (asked .stays-held .result) (asked .before .is-undecided2 .ensures)
-    (λ g. asked .stays-held .ensures (a .state) (used (a .progress) (a .progressing)) (all-known (inside .before)) g (count-used (a .progress) (a .progressing) (omega (arith, rows start .0, few .0))))
+    (λ g. asked .stays-held .ensures (a .state) (used (a .progress) (a .progressing)) (all-known (inside .before .before .before .before)) g (count-used (a .progress) (a .progressing) (omega (arith, rows start .0, few .0))))
 
 loop4-holds :
     tie.Need-loop4-holds Inv-loop μ-loop Inv-loop2 μ-loop2 Inv-loop3 μ-loop3 Inv-loop4 μ-loop4
@@ -422,17 +417,35 @@ returns-2 c =
     let requests = blanks-held .before .before in
     let blanks = requests .before .before in
     let events = blanks .before .before in
-    let passed = counted (events .before) in
-    let start = passed .before .before .before in
+    let start = begun events in
     let a = start .args .t1 in
+    let t = start .args .transaction in
     let v1 = events .before .loop in
     let v2 = blanks .before .loop2 in
     let v3 = requests .before .loop3 in
     let v4 = blanks-held .before .loop4 in
-    let few = counts passed in
-    judges-all a (start .args .transaction) (v1 .outcomes) (v1 .event) (v3 .request) (v1 .found) (v3 .found) (v1 .in-order) (v2 .in-order) (v3 .in-order) (v4 .in-order) (c .differ .result)
-    (v1 .transactions) (v3 .transactions) (v1 .at) (v2 .at) (v3 .at) (v4 .at) (rows start .0) (rows start .1) (few .0) (few .1) (v1 .inv .0)
-    (events .loop-test .left) (v1 .inv .1) (blanks .loop2-test .left) (v2 .inv) (requests .loop3-test .left) (v3 .inv) (blanks-held .loop4-test .left) (v4 .inv) (c .differ .ensures)
+    let few = counts (counted (events .before)) in
+    let requests-passed : v3 .at ≡ a .holding = omega (arith, v3 .inv .within, requests .loop3-test .left) in
+    judges-all a t (v1 .outcomes) (v1 .event) (v3 .request) (v3 .found) (v4 .in-order) (c .differ .result)
+    (record {
+      many = rows start .0;
+      manyHeld = rows start .1;
+      few = few .0;
+      fewHeld = few .1;
+      foundEvent = v1 .found;
+      events = v1 .in-order;
+      listed = v1 .transactions;
+      knows = all-known events;
+      passed = events-end panel a t (v1 .event) (v1 .found) (v1 .in-order) (v1 .transactions) (v1 .at) (events-passed events) (v1 .inv .1);
+      blanks = v2 .in-order;
+      blank = blanks-end (a .progress) (v1 .in-order) (v1 .at) (a .progressing) (v2 .in-order) (v2 .at) (events-passed events) (blanks .loop2-test .left) (rows start .0) (v2 .inv);
+      requests = v3 .in-order;
+      listedAll = v3 .transactions;
+      passedHeld =
+          requests-end panel a t (v1 .outcomes .guarded) (v1 .found) (v2 .in-order) (v1 .transactions) (v3 .request) (v3 .found) (v3 .in-order) (v3 .transactions) (v3 .at) requests-passed (v3 .inv);
+      blankHeld = blanks-end (a .held) (v3 .in-order) (v3 .at) (a .holding) (v4 .in-order) (v4 .at) requests-passed (blanks-held .loop4-test .left) (rows start .1) (v4 .inv);
+      differs = c .differ .ensures;
+    })
 
 pub judge-spec : {M : Type 1} → statement M
 judge-spec =

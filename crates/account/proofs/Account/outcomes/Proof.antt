@@ -51,8 +51,9 @@ loop-less c = omega arith
 
 loop-again : tie.Need-loop-again Inv-loop μ-loop
 loop-again c =
-    let v = c .before .before .before .loop in
-    let start = c .before .before .before .before .before .before in
+    let turn = c .before .before .before in
+    let v = turn .loop in
+    let start = turn .before .before .before in
     let a = start .args .t1 in
     let x = getD (a .progress) (v .at) blank in (
       omega arith,
