@@ -1,13 +1,16 @@
 -- The loop's invariant says how far the events are applied; both ways through the body are laws, and so is the way's end.
 -- Assumes nothing.
 use Prim.Native.Nat.{_-_, _<_}
-use mathlib.Core.Path.{_≡_, refl, sym, ap}
+use mathlib.Core.Path.{_≡_, refl, sym, ap, _∙_}
 use mathlib.Core.Logic.{⊎-elim}
 use native.Mathlib.Omega.{arith}
 use lib.ListN.{length, getD, set, length-set}
 use lib.Seq.{set-out}
 use borrow.Author.Needs.{needs}
+use Rattle.rule.specs.Rule.{applied}
+use Rattle.events.specs.declared.State.{State}
 use Rattle.filing.specs.declared.Entries.{Entries}
+use Rattle.filing.specs.Entries.{entryOf}
 use Rattle.filing.specs.Slots.{committedSlot, blank}
 use Rattle.account.specs.Taken.{markedAt}
 use Rattle.account.proofs.Places.{as-many}
@@ -114,12 +117,13 @@ loop-again c =
     let join = way .before .before .before in
     let a = join .before .args in
     let v = way .loop in
+    let x = getD (v .next .progress) (v .at) blank in
     let below : v .at < a .self .progressing = test .before .before .if2 .taken in (
       v .inv .0,
       ⊎-elim
           (λ w.
           let first = rw (test .is-undecided .ensures) at (w .0 .taken) in
-          let entry = rw (w .1 .ensures) at (w .2 .ensures) in
+          let entry = w .2 .ensures ∙ ap (λ (s : State). entryOf (applied (x .transaction) (x .filed) (x .event) (s .balance))) (w .1 .ensures) in
           rw (w .3, w .4, w .5, w .6, w .1 .ensures) (applying-next (a .self) (join .if1 .next .progress) (way .before .before .only .result) (v .next) (v .entries) (v .state) (v .ended) (v .at) (v .inv .1) below (w .2 .result) entry first))
           (λ w.
           let later = rw (test .is-undecided .ensures) at (w .0 .left) in
