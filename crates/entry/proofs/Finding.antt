@@ -11,9 +11,11 @@ use lib.Dec.{eqb, leb, ltb}
 use lib.ListN.{length, getD}
 use Rattle.events.specs.declared.Event.{Event}
 use Rattle.events.specs.declared.Event.the-variants.{Open, Withdraw, Deposit, Close}
-use Rattle.account.specs.declared.Told.{Told}
-use Rattle.account.specs.declared.Told.the-variants.{Accepted, Rejected, Held, Noted, Applied, Dropped}
-use Rattle.account.specs.declared.Entry.{Entry}
+use Rattle.filing.specs.declared.Verdict.{Verdict}
+use Rattle.filing.specs.declared.Verdict.the-variants.{Accepted, Rejected, Held}
+use Rattle.filing.specs.declared.Told.{Told}
+use Rattle.filing.specs.declared.Told.the-variants.{Voted, Noted, Applied, Dropped}
+use Rattle.filing.specs.declared.Entry.{Entry}
 use Rattle.layout.specs.Number.{numberAt}
 use Rattle.layout.specs.Fields.{rowOfKind, wholeOf, numbersAt}
 use Rattle.events.specs.Kinds.{eventKind, amountOf, eventOf}
@@ -21,11 +23,12 @@ use Rattle.layout.specs.Plain.{twoAt, fourAt}
 use Rattle.layout.proofs.Tables.{present}
 use Rattle.events.proofs.Table.{event-is}
 use Rattle.layout.proofs.Plain.{numbers-plain}
+use Rattle.layout.proofs.Heading.{filed-plain}
 use Rattle.entry.specs.declared.EntryReading.{EntryReading}
 use Rattle.entry.specs.declared.EntryReading.the-variants.{Found, Nothing}
-use Rattle.entry.specs.Bytes.{entryRows, kindOf, toldBy, lengthOfTold}
-use Rattle.entry.specs.Answers.{given, eventFits, readOf}
-use Rattle.entry.specs.Plain.{lengthIn, EventStands, Stands, Begins, ReaderFinds, kindLength, noEntry, nothing, ReaderFindsNone}
+use Rattle.entry.specs.Bytes.{entryRows, kindOf, verdictBy, toldBy, lengthOfTold}
+use Rattle.entry.specs.Answers.{saidOfEntry, eventFits, readOf}
+use Rattle.entry.specs.Plain.{vote, lengthIn, EventStands, VoteStands, Stands, Begins, ReaderFinds, kindLength, noEntry, nothing, ReaderFindsNone}
 use Rattle.entry.proofs.Shapes.{shaped, event-fits}
 use Rattle.entry.proofs.Reading.{numberAfter, entryAt, fits-read, read-unknown, read-short, read-account, read-fitting}
 use Rattle.entry.proofs.Inverse.{event-back, taken-of}
@@ -61,7 +64,7 @@ event-read bytes f =
 -- what the bytes' kind tells stands in them, and is as long as the kind says
 module _ (bytes : List ℕ) (kind : ℕ) (p : 0 < wholeOf (rowOfKind entryRows kind)) where
   stands-by : kind ≡ numberAt bytes 0 1 → fitsAt bytes kind ≡ true → Stands bytes (toldBy kind (eventAt bytes) (numberAfter bytes kind))
-  unfolding rowOfKind entryRows toldBy
+  unfolding rowOfKind entryRows verdictBy toldBy
   stands-by e f =
       let first : (k : ℕ) → k ≡ numberAt bytes 0 1 → getD bytes 0 0 ≡ k = λ k e. sym (numbers-plain bytes 0 0 .read1) ∙ sym e in
       let two = sym (numbers-plain bytes 16 0 .read2) in
@@ -104,7 +107,7 @@ found-begins bytes e account whole r =
       transaction = sym (n 1 0 .read4) ∙ ap (λ (x : Entry). x .transaction) entry;
       account′ = sym (n 5 0 .read2) ∙ t .account′;
       known = rw (n 5 0 .read2) at (t .known);
-      second = sym (n 7 0 .read4) ∙ ap (λ (x : Entry). x .second) entry;
+      filed = sym (filed-plain bytes) ∙ ap (λ (x : Entry). x .filed) entry;
       length′ = sym (t .length′) ∙ length-by bytes kind (t .positive) ∙ ap lengthIn told;
       enough = rw (t .length′) at (t .enough);
     }
@@ -122,14 +125,20 @@ event-at bytes e s =
     let a : numberAt bytes 12 4 ≡ amountOf e = numbers-plain bytes 12 0 .read4 ∙ p .1 in
     rw (k, a) (event-is e, event-fits e)
 
+-- a vote by its verdict
+vote-parts : (bytes : List ℕ) (v : Verdict) (n : ℕ) (e : Event) → VoteStands bytes v → eventAt bytes ≡ e → numberAt bytes 16 2 ≡ n
+    → eventFits (numberAt bytes 11 1) (numberAt bytes 12 4) ≡ true → Parts bytes (vote v e n)
+unfolding verdictBy toldBy
+vote-parts bytes Accepted n e s p q f = record { kind = s; told′ = ap₂ (vote Accepted) p q; fitting = f }
+vote-parts bytes Rejected n e s p q f = record { kind = s; told′ = ap₂ (vote Rejected) p q; fitting = f }
+vote-parts bytes Held n e s p q f = record { kind = s; told′ = ap₂ (vote Held) p q; fitting = f }
+
 parts : (bytes : List ℕ) (told : Told) → Stands bytes told → Parts bytes told
 unfolding toldBy
-parts bytes (Accepted e n) s =
-    let v = event-at bytes e (s .1) in record { kind = s .0; told′ = ap₂ Accepted (v .0) (numbers-plain bytes 16 0 .read2 ∙ s .2); fitting = v .1 }
-parts bytes (Rejected e n) s =
-    let v = event-at bytes e (s .1) in record { kind = s .0; told′ = ap₂ Rejected (v .0) (numbers-plain bytes 16 0 .read2 ∙ s .2); fitting = v .1 }
-parts bytes (Held e n) s =
-    let v = event-at bytes e (s .1) in record { kind = s .0; told′ = ap₂ Held (v .0) (numbers-plain bytes 16 0 .read2 ∙ s .2); fitting = v .1 }
+parts bytes (Voted e w) s =
+    let v = event-at bytes e (s .1) in
+    let weighed : numberAt bytes 16 2 ≡ w .weighed = numbers-plain bytes 16 0 .read2 ∙ s .2 in
+    vote-parts bytes (w .verdict) (w .weighed) e (s .0) (v .0) weighed (v .1)
 parts bytes Noted s = record { kind = s; told′ = refl; fitting = refl }
 parts bytes (Applied e n) s =
     let v = event-at bytes e (s .1) in record { kind = s .0; told′ = ap₂ Applied (v .0) (numbers-plain bytes 16 0 .read4 ∙ s .2); fitting = v .1 }
@@ -144,14 +153,14 @@ begins-found bytes e account whole b =
     let q = parts bytes told (b .stands) in
     let w : whole ≡ lengthOfTold told = b .length′ ∙ sym (shaped told .length′) in
     let z : 0 < whole = rw (w, ← shaped told .whole) (omega arith) in
-    let entry : entryAt bytes kind ≡ e = rw (n 1 0 .read4, n 7 0 .read4, b .transaction, b .second, q .told′) in
+    let entry : entryAt bytes kind ≡ e = rw (n 1 0 .read4, filed-plain bytes, b .transaction, b .filed, q .told′) in
     read-fitting bytes kind whole (sym (q .kind) ∙ sym (n 0 0 .read1)) w (λ y. omega arith) (b .enough) (rw (n 5 0 .read2) (b .known))
     ∙ rw (q .fitting, entry, n 5 0 .read2, b .account′)
 
 pub reader-finds : ReaderFinds
 reader-finds bytes e account whole = (
   (λ g. found-begins bytes e account whole (readings-apart (readOf bytes) (Found e account whole) g)),
-  (λ b. ap given (begins-found bytes e account whole b)),
+  (λ b. ap saidOfEntry (begins-found bytes e account whole b)),
 )
 
 -- ---- where nothing is found
@@ -209,6 +218,6 @@ reader-finds-none bytes = (
   (λ h. go (readOf bytes) (none-by bytes ∙ h)),
 )
   where
-    go : (x : EntryReading) → isNothing x ≡ true → given x ≡ nothing
+    go : (x : EntryReading) → isNothing x ≡ true → saidOfEntry x ≡ nothing
     go (Found e account whole) h = absurd (false≢true h)
     go Nothing h = refl

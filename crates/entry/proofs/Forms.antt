@@ -9,7 +9,7 @@ use mathlib.Core.Option.{none, some}
 use lib.Dec.{ltb}
 use lib.ListN.{length, take, drop}
 use lib.Seq.{take-at}
-use Rattle.account.specs.declared.Entry.{Entry}
+use Rattle.filing.specs.declared.Entry.{Entry}
 use Rattle.layout.specs.Answers as Writing′
 use Rattle.entry.specs.Bytes.{bytesOfEntry, bytesOfEntries, listOf}
 use Rattle.entry.specs.Answers.{longestCall, writeOf}
@@ -30,7 +30,7 @@ writer-leaves entries account buffer h = rw (← same-bytes account (take (entri
     bytes : List ℕ
     bytes = bytesOfEntries account (listOf entries)
 
-    go : (a b : Bool) → Writing′.given (cond a (Writing′.refusedWith 4 buffer) (cond b (Writing′.refusedWith 4 buffer) (Writing′.wroteOver bytes buffer)) .answer) .refusal ≡ none
+    go : (a b : Bool) → Writing′.saidOfWriting (cond a (Writing′.refusedWith 4 buffer) (cond b (Writing′.refusedWith 4 buffer) (Writing′.wroteOver bytes buffer)) .answer) .refusal ≡ none
         → take (length bytes) (cond a (Writing′.refusedWith 4 buffer) (cond b (Writing′.refusedWith 4 buffer) (Writing′.wroteOver bytes buffer)) .buffer) ≡ bytes
     go true b e = let z : _≡_ {A = ℕ} 0 1 = cc in absurd (omega arith)
     go false true e = let z : _≡_ {A = ℕ} 0 1 = cc in absurd (omega arith)

@@ -3,25 +3,27 @@
 -- Assumes nothing.
 use Prim.Native.Nat.{ℕ, _+_, _≤_, _<_}
 use native.Mathlib.Omega.{arith}
-use mathlib.Core.Path.{_≡_, refl, ap, ap₂, sym, _∙_}
+use mathlib.Core.Path.{_≡_, refl, ap, ap₂, sym, subst, _∙_}
 use mathlib.Core.Bool.{Bool, true, false, cond, _&&_, _||_, not}
 use mathlib.Core.List.{List, [], _++_}
 use mathlib.Core.Option.{Option, none, some}
 use borrow.Author.Tests.{ltb-false, eqb-true, eqb-false, leb-true}
 use lib.Dec.{eqb, leb, ltb}
 use lib.ListN.{length, getD, take, drop, length-append}
-use Rattle.account.specs.declared.Entry.{Entry}
+use Rattle.filing.specs.declared.Entry.{Entry}
 use Rattle.layout.specs.Number.{numberAt}
 use Rattle.layout.specs.Fields.{KindRow, rowOfKind, wholeOf, thenOf, widthsOf, numbersAt, total, lastAccount}
 use Rattle.events.specs.Kinds.{eventKind, amountOf, eventOf}
+use Rattle.layout.specs.Heading.{filedFrom, FiledFits}
 use Rattle.layout.specs.Inverse.{Fit}
 use Rattle.layout.proofs.Numbers.{numberAt-fits}
-use Rattle.layout.proofs.Fields.{fit-heading, numbersAt-fit, numbersAt-written, written-numbersAt}
+use Rattle.layout.proofs.Fields.{numbersAt-fit, numbersAt-written, written-numbersAt}
+use Rattle.layout.proofs.Heading.{fit-heading, filed-fits}
 use Rattle.layout.proofs.Tables.{present, unknown}
 use Rattle.layout.proofs.Shapes.{found-holds}
 use Rattle.entry.specs.declared.EntryReading.{EntryReading}
 use Rattle.entry.specs.declared.EntryReading.the-variants.{Found, Nothing}
-use Rattle.entry.specs.Bytes.{entryRows, kindOf, thenNumbers, numbersOf, bytesOfEntry, lengthOfTold, toldBy, entryOf}
+use Rattle.entry.specs.Bytes.{entryRows, kindOf, thenNumbers, numbersOf, bytesOfEntry, lengthOfTold, verdictBy, toldBy, entryFrom}
 use Rattle.entry.specs.Answers.{eventFits, thenFits, readNumbers, readKind, readOf}
 use Rattle.entry.specs.Inverse.{ReadsWritten, WritesRead}
 use Rattle.entry.proofs.Booleans.{both}
@@ -39,7 +41,7 @@ reads-written account e after p =
     let n : length bytes ≡ lengthOfTold told + length after = rw (length-append, length-entry account e) in
     let z : 0 < lengthOfTold told = rw (← shaped told .whole) (omega arith) in
     let fit : Fit (widthsOf found) numbers =
-    fit-heading (kindOf told) (e .transaction) account (e .second) (shaped told .kind) (p .transaction) (p .account′) (p .second)
+    fit-heading (kindOf told) (e .transaction) account (e .filed) (shaped told .kind) (p .transaction) (p .account′) (p .filed)
     (shaped told .fits (p .amount) (p .weighed) (p .balance)) in
     let r : numbersAt (widthsOf found) bytes 0 ≡ numbers = numbersAt-written [] after fit in
     let k : kindOf told ≡ numberAt bytes 0 1 = sym (ap (λ (ns : List ℕ). getD ns 0 0) r) in
@@ -54,7 +56,7 @@ pub record Taken (found : Option KindRow) (bytes : List ℕ) (account : ℕ) (e 
   pub fitting : thenFits (drop 4 (numbersAt (widthsOf found) bytes 0)) ≡ true
   pub known : getD (numbersAt (widthsOf found) bytes 0) 2 0 ≤ lastAccount
   pub account′ : getD (numbersAt (widthsOf found) bytes 0) 2 0 ≡ account
-  pub entry : entryOf (numbersAt (widthsOf found) bytes 0) ≡ e
+  pub entry : entryFrom (numbersAt (widthsOf found) bytes 0) ≡ e
   pub length′ : wholeOf found ≡ whole
 
 nothing-found : (e : Entry) (account whole : ℕ) → Nothing ≡ Found e account whole → ⊥
@@ -77,7 +79,7 @@ by-row none bytes account e whole p n = absurd (omega arith)
 by-row (some r) bytes account e whole p n =
     let numbers = numbersAt (widthsOf (some r)) bytes 0 in
     let s = past (ltb (length bytes) (r .whole)) (readNumbers (r .whole) numbers) e account whole n in
-    let entry = Found (entryOf numbers) (getD numbers 2 0) (r .whole) in
+    let entry = Found (entryFrom numbers) (getD numbers 2 0) (r .whole) in
     let t = past (ltb lastAccount (getD numbers 2 0)) (cond (thenFits (drop 4 numbers)) entry Nothing) e account whole (s .1) in
     let u = held (thenFits (drop 4 numbers)) entry e account whole (t .1) in
     record {
@@ -123,14 +125,14 @@ event-back kind amount f = go (eqb kind 1) (eqb kind 2) (eqb kind 3) refl refl r
 -- the numbers that were read are those of the entry
 numbers-back : (bytes : List ℕ) (kind : ℕ) → 0 < wholeOf (rowOfKind entryRows kind) → kind ≡ numberAt bytes 0 1
     → thenFits (numbersAt (thenOf (rowOfKind entryRows kind)) bytes 11) ≡ true
-    → numbersOf (numberAt bytes 5 2) (entryOf (numbersAt (widthsOf (rowOfKind entryRows kind)) bytes 0)) ≡ numbersAt (widthsOf (rowOfKind entryRows kind)) bytes 0
-unfolding rowOfKind entryRows numbersAt toldBy
+    → numbersOf (numberAt bytes 5 2) (entryFrom (numbersAt (widthsOf (rowOfKind entryRows kind)) bytes 0)) ≡ numbersAt (widthsOf (rowOfKind entryRows kind)) bytes 0
+unfolding rowOfKind entryRows numbersAt verdictBy toldBy
 numbers-back bytes kind p =
     let k = numberAt bytes 11 1 in
     let a = numberAt bytes 12 4 in
     present
     (λ (k : ℕ). k ≡ numberAt bytes 0 1 → thenFits (numbersAt (thenOf (rowOfKind entryRows k)) bytes 11) ≡ true
-    → numbersOf (numberAt bytes 5 2) (entryOf (numbersAt (widthsOf (rowOfKind entryRows k)) bytes 0)) ≡ numbersAt (widthsOf (rowOfKind entryRows k)) bytes 0)
+    → numbersOf (numberAt bytes 5 2) (entryFrom (numbersAt (widthsOf (rowOfKind entryRows k)) bytes 0)) ≡ numbersAt (widthsOf (rowOfKind entryRows k)) bytes 0)
     entryRows kind (
       (λ e f. rw (← e, event-back k a f .0, event-back k a f .1)),
       (
@@ -171,7 +173,7 @@ writes-read bytes account e whole b n =
           record {
             transaction = rw (number 1) (numberAt-fits 4 1 bytes b);
             account′ = rw (number 2) (t .known);
-            second = rw (number 3) (numberAt-fits 4 7 bytes b);
+            filed = subst FiledFits (sym (ap filedFrom numbers)) (filed-fits bytes b);
             amount = bounds .0;
             weighed = bounds .1;
             balance = bounds .2;

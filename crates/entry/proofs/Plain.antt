@@ -12,7 +12,7 @@ use lib.ListN.{length, take, drop}
 use lib.Seq.{drop-at}
 use Rattle.events.specs.declared.Event.{Event}
 use Rattle.events.specs.declared.Event.the-variants.{Open, Withdraw, Deposit, Close}
-use Rattle.account.specs.declared.Entry.{Entry}
+use Rattle.filing.specs.declared.Entry.{Entry}
 use Rattle.layout.specs.Number.{bytesOf}
 use Rattle.layout.specs.Fields.{written, rowOfKind, wholeOf}
 use Rattle.events.specs.Kinds.{eventKind, amountOf}
@@ -34,7 +34,7 @@ event-bytes Close rest = rw (numbers-plain [] 0 4 .bytes1, numbers-plain [] 0 0 
 
 pub entries-plain : EntriesPlain
 unfolding bytesOfEntry lengthOfTold rowOfKind entryRows written
-entries-plain t a s e n =
+entries-plain t a g e n =
     let p = numbers-plain [] 0 in
     record {
       bytes =
@@ -51,7 +51,7 @@ entries-plain t a s e n =
             p 22 .bytes1,
             p t .bytes4,
             p a .bytes2,
-            p s .bytes4,
+            p (g .second) .bytes4,
             p n .bytes2,
             p n .bytes4,
           );

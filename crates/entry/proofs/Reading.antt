@@ -9,15 +9,16 @@ use mathlib.Core.Option.{Option, none, some}
 use borrow.Author.Tests.{lt-ltb, le-ltb}
 use lib.Dec.{eqb}
 use lib.ListN.{length, getD, drop}
-use Rattle.account.specs.declared.Entry.{Entry}
+use Rattle.filing.specs.declared.Entry.{Entry}
 use Rattle.layout.specs.Number.{numberAt}
 use Rattle.layout.specs.Fields.{KindRow, rowOfKind, wholeOf, thenOf, widthsOf, numbersAt, lastAccount}
 use Rattle.layout.specs.Shapes.{bytesIn, shapeOf}
 use Rattle.events.specs.Kinds.{eventOf}
 use Rattle.layout.proofs.Tables.{present, unknown}
+use Rattle.layout.proofs.Heading.{filedAt}
 use Rattle.layout.proofs.Shapes.{found-holds, padded-read, padded-at}
 use Rattle.entry.specs.declared.EntryReading.the-variants.{Found, Nothing}
-use Rattle.entry.specs.Bytes.{entryRows, toldBy, entryBy, entryOf}
+use Rattle.entry.specs.Bytes.{entryRows, toldBy, entryBy, entryFrom}
 use Rattle.entry.specs.Answers.{eventFits, thenFits, readKind, readOf}
 use Rattle.entry.proofs.Shapes.{rows-hold}
 
@@ -30,7 +31,7 @@ abbrev pub entryAt : (bytes : List ℕ) (kind : ℕ) → Entry
 entryAt bytes kind =
     record {
       transaction = numberAt bytes 1 4;
-      second = numberAt bytes 7 4;
+      filed = filedAt bytes;
       told = toldBy kind (eventOf (numberAt bytes 11 1) (numberAt bytes 12 4)) (numberAfter bytes kind);
     }
 
@@ -46,7 +47,7 @@ account-row (some r) bytes h a = rw (le-ltb (length bytes) (r .whole) h, lt-ltb 
 
 -- an entry whose numbers are these, if they fit
 pub numbers-row : (found : Option KindRow) (bytes numbers : List ℕ) → 0 < wholeOf found → wholeOf found ≤ length bytes → numbersAt (widthsOf found) bytes 0 ≡ numbers
-    → getD numbers 2 0 ≤ lastAccount → readKind found bytes ≡ cond (thenFits (drop 4 numbers)) (Found (entryOf numbers) (getD numbers 2 0) (wholeOf found)) Nothing
+    → getD numbers 2 0 ≤ lastAccount → readKind found bytes ≡ cond (thenFits (drop 4 numbers)) (Found (entryFrom numbers) (getD numbers 2 0) (wholeOf found)) Nothing
 numbers-row none bytes numbers p h e a = absurd (omega arith)
 numbers-row (some r) bytes numbers p h e a = rw (e, le-ltb (length bytes) (r .whole) h, le-ltb lastAccount (getD numbers 2 0) a)
 
@@ -71,11 +72,11 @@ module _ (bytes : List ℕ) (kind : ℕ) (p : 0 < wholeOf (rowOfKind entryRows k
       || eventFits (getD (numbersAt (widthsOf (rowOfKind entryRows k)) bytes 0) 4 0) (getD (numbersAt (widthsOf (rowOfKind entryRows k)) bytes 0) 5 0)))
       entryRows kind (refl, (refl, (refl, (refl, (refl, (refl, tt)))))) p
 
-  told-read : kind ≡ numberAt bytes 0 1 → entryOf (numbersAt (widthsOf (rowOfKind entryRows kind)) bytes 0) ≡ entryAt bytes kind
+  told-read : kind ≡ numberAt bytes 0 1 → entryFrom (numbersAt (widthsOf (rowOfKind entryRows kind)) bytes 0) ≡ entryAt bytes kind
   unfolding rowOfKind entryRows numbersAt toldBy
   told-read k =
       present
-      (λ (k : ℕ). k ≡ numberAt bytes 0 1 → entryOf (numbersAt (widthsOf (rowOfKind entryRows k)) bytes 0) ≡ entryAt bytes k)
+      (λ (k : ℕ). k ≡ numberAt bytes 0 1 → entryFrom (numbersAt (widthsOf (rowOfKind entryRows k)) bytes 0) ≡ entryAt bytes k)
       entryRows kind ((λ e. rw (← e)), ((λ e. rw (← e)), ((λ e. rw (← e)), ((λ e. rw (← e)), ((λ e. rw (← e)), ((λ e. rw (← e)), tt)))))) p k
 
 module _ (bytes : List ℕ) (kind whole : ℕ) (k : kind ≡ numberAt bytes 0 1) (w : whole ≡ wholeOf (rowOfKind entryRows kind)) where

@@ -13,9 +13,11 @@ use lib.Dec.{leb}
 use lib.ListN.{length, getD, take, length-append}
 use lib.Seq.{sets, take-suc, take-all}
 use Rattle.events.specs.declared.Event.the-variants.{Open}
-use Rattle.account.specs.declared.Told.{Told}
-use Rattle.account.specs.declared.Told.the-variants.{Accepted}
-use Rattle.account.specs.declared.Entry.{Entry}
+use Rattle.filing.specs.declared.Verdict.the-variants.{Accepted}
+use Rattle.filing.specs.declared.Told.{Told}
+use Rattle.filing.specs.declared.Told.the-variants.{Voted}
+use Rattle.filing.specs.declared.Entry.{Entry}
+use Rattle.filing.specs.Slots.{blankFiled}
 use Rattle.layout.specs.Fields.{rowOfKind, widthsOf, written}
 use Rattle.layout.specs.Shapes.{bytesIn, padded, shapeOf}
 use Rattle.layout.proofs.Stores.{sets-more}
@@ -66,7 +68,7 @@ wholes-short (e ∷ es) = rw mul-suc (omega (arith, short-told (e .told), wholes
 
 -- what the code's arrays give past their end, where nothing looks
 abbrev pub noEntry : Entry
-noEntry = record { transaction = 0; second = 0; told = Accepted (Open 0) 0 }
+noEntry = record { transaction = 0; filed = blankFiled; told = Voted (Open 0) (record { verdict = Accepted; weighed = 0 }) }
 
 -- one entry more
 module _ (places : List Entry) (i : ℕ) (h : i < length places) where

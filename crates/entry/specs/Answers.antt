@@ -6,14 +6,14 @@ use mathlib.Core.List.{List, [], _∷_}
 use mathlib.Core.Option.{Option, none, some}
 use lib.Dec.{eqb, leb, ltb}
 use lib.ListN.{length, getD, drop}
-use Rattle.account.specs.declared.Entry.{Entry}
-use Rattle.account.specs.declared.Entries.{Entries}
+use Rattle.filing.specs.declared.Entry.{Entry}
+use Rattle.filing.specs.declared.Entries.{Entries}
 use Rattle.layout.specs.Number.{numberAt}
 use Rattle.layout.specs.Fields.{KindRow, rowOfKind, widthsOf, numbersAt, lastAccount}
 use Rattle.layout.specs.Answers.{Wrote, wroteOver, refusedWith}
 use Rattle.entry.specs.declared.EntryReading.{EntryReading}
 use Rattle.entry.specs.declared.EntryReading.the-variants.{Found, Nothing}
-use Rattle.entry.specs.Bytes.{entryRows, bytesOfEntries, listOf, entryOf}
+use Rattle.entry.specs.Bytes.{entryRows, bytesOfEntries, listOf, entryFrom}
 
 -- no call writes more: 11 for the commit, 20 for each of eight applied, 18 for each of eight votes (9.5)
 abbrev pub longestCall : ℕ
@@ -27,14 +27,14 @@ writeOf entries account buffer =
     (cond (ltb (length buffer) (length bytes)) (refusedWith 4 buffer) (wroteOver bytes buffer))
 
 -- what the reader of an entry gives, by the cases of its answer: the entry, its account and its length, which is 0 where there is no entry
-pub record Given : Type 0 where
+pub record SaidOfEntry : Type 0 where
   pub entry : Option Entry
   pub account : ℕ
   pub length′ : ℕ
 
-abbrev pub given : EntryReading → Given
-given (Found e account whole) = record { entry = some e; account = account; length′ = whole }
-given Nothing = record { entry = none; account = 0; length′ = 0 }
+abbrev pub saidOfEntry : EntryReading → SaidOfEntry
+saidOfEntry (Found e account whole) = record { entry = some e; account = account; length′ = whole }
+saidOfEntry Nothing = record { entry = none; account = 0; length′ = 0 }
 
 -- an event kind 1 to 4, and with a Close no amount but 0 (9.2)
 abbrev pub eventFits : (kind amount : ℕ) → Bool
@@ -49,7 +49,7 @@ thenFits (kind ∷ numbers) = eventFits kind (getD numbers 0 0)
 abbrev pub readNumbers : (whole : ℕ) (numbers : List ℕ) → EntryReading
 readNumbers whole numbers =
     cond (ltb lastAccount (getD numbers 2 0)) Nothing
-    (cond (thenFits (drop 4 numbers)) (Found (entryOf numbers) (getD numbers 2 0) whole) Nothing)
+    (cond (thenFits (drop 4 numbers)) (Found (entryFrom numbers) (getD numbers 2 0) whole) Nothing)
 
 -- a kind that is not 17 to 22, or an entry that is not whole, is none
 abbrev pub readKind : Option KindRow → (bytes : List ℕ) → EntryReading

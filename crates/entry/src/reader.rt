@@ -5,8 +5,8 @@ ghost use Rattle.entry.specs.Bytes.{entryBy};
 ghost use Rattle.entry.specs.Answers.{eventFits, readOf};
 use crate::EntryReading;
 use crate::kinds;
-use account::Entry;
 use events::Event;
+use filing::Entry;
 
 // The entry that the bytes begin with, by the layout alone; bytes after it are not looked at.
 pub fn read_entry(bytes: &[u8]) -> EntryReading
@@ -45,7 +45,7 @@ fn entry_of(kind: u8, numbers: [u32; layout::FIELDS]) -> Entry
 {
     Entry {
         transaction: numbers[1],
-        second: numbers[3],
+        filed: layout::filed_from(numbers),
         told: kinds::told_of(kind, event_of(numbers[4], numbers[5]), numbers[6]),
     }
 }

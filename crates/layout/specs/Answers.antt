@@ -2,8 +2,7 @@
 -- Assumes nothing.
 use Prim.Native.Nat.{ℕ}
 use mathlib.Core.Path.{_≡_}
-use mathlib.Core.Bool.{Bool, cond}
-use mathlib.Core.List.{List, [], _∷_, _++_}
+use mathlib.Core.List.{List, _++_}
 use mathlib.Core.Option.{Option, none, some}
 use lib.ListN.{length, drop}
 use Rattle.layout.specs.declared.Writing.{Writing}
@@ -38,16 +37,3 @@ refusedWith number buffer = record { answer = Refused number; buffer = buffer }
 pub record Stays (buffer : List ℕ) (w : Wrote) : Type 0 where
   pub size : length (w .buffer) ≡ length buffer
   pub rest : drop (saidOfWriting (w .answer) .length′) (w .buffer) ≡ drop (saidOfWriting (w .answer) .length′) buffer
-
--- a test and the number that is given if it holds
-pub record Test : Type 0 where
-  pub holds : Bool
-  pub number : ℕ
-
-abbrev pub test : (holds : Bool) (number : ℕ) → Test
-test holds number = record { holds = holds; number = number }
-
--- the number of the first test that holds, in their order
-abbrev pub firstOf : List Test → Option ℕ
-firstOf [] = none
-firstOf (t ∷ ts) = cond (t .holds) (some (t .number)) (firstOf ts)

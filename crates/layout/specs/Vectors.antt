@@ -1,14 +1,11 @@
--- Numbers, the heading, a buffer and the order of tests as literals (docs/REGISTER.md, 8.1 and 10.1): what antt computes from the definitions alone.
+-- Numbers, the heading and a buffer as literals (docs/REGISTER.md, 8.1): what antt computes from the definitions alone.
 -- Assumes nothing.
-use Prim.Native.Nat.{ℕ}
 use mathlib.Core.Path.{_≡_}
-use mathlib.Core.Bool.{true, false}
 use mathlib.Core.List.{[], _∷_}
-use mathlib.Core.Option.{some}
 use Rattle.layout.specs.Number.{bytesOf, numberAt}
 use Rattle.layout.specs.Fields.{written, heading, lastAccount}
 use Rattle.layout.specs.Heading.{headingNumbers, filedFrom}
-use Rattle.layout.specs.Answers.{laidOver, test, firstOf}
+use Rattle.layout.specs.Answers.{laidOver}
 
 pub record VectorsHold : Type 0 where
   -- a number and its bytes, highest first, among other bytes
@@ -21,5 +18,3 @@ pub record VectorsHold : Type 0 where
   pub account : lastAccount ≡ 15
   -- bytes over the beginning of a buffer
   pub over : laidOver (1 ∷ 2 ∷ []) (7 ∷ 8 ∷ 9 ∷ []) ≡ 1 ∷ 2 ∷ 9 ∷ []
-  -- of two tests that hold the first is taken, and one that does not hold is passed
-  pub first : (a b c : ℕ) → firstOf (test false a ∷ test true b ∷ test true c ∷ []) ≡ some b

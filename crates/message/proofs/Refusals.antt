@@ -9,11 +9,12 @@ use mathlib.Core.Option.{Option, none, some}
 use borrow.Author.Tests.{leb-true, leb-false, ltb-false}
 use lib.Dec.{leb, ltb, eqb}
 use lib.ListN.{length, getD}
+use Rattle.rule.specs.Tests.{test, firstOf}
 use Rattle.layout.specs.Number.{numberAt}
 use Rattle.layout.specs.Fields.{KindRow, rowOfKind, wholeOf, widthsOf, numbersAt}
 use Rattle.layout.specs.Plain.{twoAt}
 use Rattle.layout.specs.Answers as Answers′
-use Rattle.layout.specs.Answers.{firstOf, test, wroteOver, refusedWith}
+use Rattle.layout.specs.Answers.{wroteOver, refusedWith}
 use Rattle.layout.proofs.Tables.{unknown}
 use Rattle.layout.proofs.Plain.{numbers-plain}
 use Rattle.layout.proofs.Answers.{wrote-stays, cond-stays}

@@ -6,10 +6,11 @@ use mathlib.Core.Bool.{cond, not, _&&_}
 use mathlib.Core.List.{List, [], _∷_}
 use lib.Dec.{eqb, leb, ltb}
 use lib.ListN.{length, getD}
+use Rattle.rule.specs.Tests.{Test, test, firstOf}
 use Rattle.layout.specs.Fields.{rowOfKind, wholeOf}
 use Rattle.layout.specs.Plain.{twoAt}
 use Rattle.layout.specs.Answers as Answers′
-use Rattle.layout.specs.Answers.{Test, test, firstOf, Stays}
+use Rattle.layout.specs.Answers.{Stays}
 use Rattle.message.specs.declared.Message.{Message}
 use Rattle.message.specs.declared.Reading.{Reading}
 use Rattle.message.specs.Bytes.{messages, headingOf}
