@@ -11,6 +11,7 @@ use lib.Dec.{eqb, leb, ltb}
 use lib.ListN.{length, getD, take}
 use Rattle.rule.specs.Lists.{some-of, keep}
 use Rattle.rule.specs.Rule.{Rule}
+use Rattle.rule.specs.Tests.{Test, test, firstOf}
 use Rattle.rule.specs.Outcome.{bit}
 use Rattle.rule.specs.Exact.{chosenState}
 use Rattle.events.specs.declared.Event.{Event}
@@ -20,7 +21,6 @@ use Rattle.filing.specs.Slots.{isUndecided, slotOf}
 use Rattle.account.specs.declared.Account.{Account}
 use Rattle.account.specs.InOrder.{inOrderBy}
 use Rattle.account.specs.Steps.{refusalIn, Shown, shownBy}
-use Rattle.layout.specs.Answers.{Test, test, firstOf}
 use Rattle.message.specs.declared.Message.{Message}
 use Rattle.message.specs.Bytes.{kindOf, headingOf}
 use Rattle.register.specs.declared.Register.{Register}
