@@ -13,3 +13,6 @@ pub mod Sequences
 pub mod ReadBack
 pub mod Told
 pub mod Sends
+pub mod OtherSecond
+pub mod Filed
+pub mod Seconds
