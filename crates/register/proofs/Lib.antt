@@ -16,3 +16,14 @@ pub mod Sends
 pub mod OtherSecond
 pub mod Filed
 pub mod Seconds
+pub mod AsTheRule
+pub mod Own
+pub mod Underway
+pub mod WholeRuns
+pub mod Alike
+pub mod Turned
+pub mod RunCalls
+pub mod RunSeconds
+pub mod Demands
+pub mod Samples
+pub mod Forms

@@ -27,7 +27,7 @@ use Rattle.account.proofs.Kept.{order-lists}
 use Rattle.layout.specs.Fields.{lastAccount}
 use Rattle.message.specs.declared.Message.{Message}
 use Rattle.message.specs.Bytes.{headingOf}
-use Rattle.entry.specs.Bytes.{bytesOfEntries}
+use Rattle.entry.specs.Bytes.{bytesOfEntries, listOf}
 use Rattle.entry.specs.Answers.{longestCall}
 use Rattle.entry.specs.Longest.{CallFits}
 use Rattle.entry.proofs.CallFits.{listed, calls-fit}
@@ -95,3 +95,19 @@ module _ (R : rule.Rule State Event ℕ) (r : Register) (m : Message) where
 
   pub taken-bytes : Suits R → Free → (i : ℕ) → length (bytesOfEntries i (map entryOf (taking .entries))) ≤ longestCall
   taken-bytes k free i = rw (listed (taking .entries)) at (taken-fits k free .bytes i)
+
+-- and so have those of any step of an account
+pub step-bytes : (R : rule.Rule State Event ℕ) → Suits R → (a : Account) (m : rule.Message Filed Event) (i : ℕ) → length (bytesOfEntries i (listOf (stepBy R a m .entries))) ≤ longestCall
+unfolding stepBy
+step-bytes R k a m i = by-order (inOrderBy R a) refl
+  where
+    called : rule-call.Called Filed State Event ℕ
+    called = rule-call.call R (listsOf a) m
+
+    by-answer : (answer : rule-call.Answer Filed Event ℕ) → CallFits (rule-call.written answer) → length (bytesOfEntries i (listOf (steppedBy a (called .account) answer .entries))) ≤ longestCall
+    by-answer (rule-call.refused n) h = h .bytes i
+    by-answer (rule-call.taken xs) h = h .bytes i
+
+    by-order : (b : Bool) → inOrderBy R a ≡ b → length (bytesOfEntries i (listOf (cond b (steppedBy a (called .account) (called .answer)) (refusedBy a 5) .entries))) ≤ longestCall
+    by-order true o = by-answer (called .answer) (calls-fit .called R (listsOf a) m (k .few) (k .fewHeld) (order-lists R a o))
+    by-order false o = calls-fit .nothing .bytes i
