@@ -22,6 +22,8 @@ pub mod Underway
 pub mod WholeRuns
 pub mod Alike
 pub mod Turned
+pub mod Writes
+pub mod Accounts
 pub mod RunCalls
 pub mod RunSeconds
 pub mod Demands

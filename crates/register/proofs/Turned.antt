@@ -3,6 +3,7 @@
 -- Assumes nothing.
 use Prim.Native.Nat.{ℕ, _-_, _≤_, _<_}
 use mathlib.Core.Path.{_≡_, refl, sym, _∙_, ap}
+use mathlib.Core.Logic.{_⊎_, inl, inr}
 use mathlib.Core.Bool.{Bool, true, false, cond}
 use mathlib.Core.List.{List, append-nil}
 use native.Mathlib.Omega.{arith}
@@ -31,6 +32,7 @@ use Rattle.message.specs.Answers.{readOf}
 use Rattle.entry.specs.Answers.{longestCall}
 use Rattle.register.specs.declared.Register.{Register}
 use Rattle.register.specs.declared.Reply.{Reply}
+use Rattle.register.specs.declared.Sent.{Sent}
 use Rattle.register.specs.declared.Reply.the-variants.{Refused, Taken}
 use Rattle.register.specs.declared.runs.Ran.{Ran}
 use Rattle.register.specs.declared.runs.Passed.{Passed}
@@ -42,7 +44,8 @@ use Rattle.register.specs.Filing.{roomed, filedOf, Fitting}
 use Rattle.register.proofs.Suits.{Suits}
 use Rattle.register.proofs.ReadAs.{read-as, account-read}
 use Rattle.register.proofs.Standing.{told-read}
-use Rattle.register.proofs.Sending.{step-bytes}
+use Rattle.register.proofs.Passed.{passed-skips}
+use Rattle.register.proofs.Sending.{Sending, refused, taken, sending, step-bytes}
 use Rattle.register.proofs.Underway.{Turn}
 
 -- what was read, where there is room: the reader's message, with room for a call
@@ -86,10 +89,19 @@ module _ (r : Register) (buffer : List ℕ) (i consumed : ℕ) (next : Account) 
       go true = refl
       go false = refl
 
-  filed-register : (answer : Answer) (whole : ℕ) (after : Register) → (passedOf (wrote answer .reply) whole .refused ≡ 0 → after ≡ withAccount r i next)
-      → ((passedOf (wrote answer .reply) whole .refused ≡ 0 → ⊥) → after ≡ r) → after ≡ wrote answer .register
-  filed-register (Answer′.Refused n) whole after taken refused = refused (λ z. omega (arith, refused-once n whole))
-  filed-register Answer′.Taken whole after taken refused = taken refl
+  filed-register : (answer : Answer) (whole : ℕ) (after : Register)
+      → ((passedOf (wrote answer .reply) whole .refused ≡ 0) × (after ≡ withAccount r i next)) ⊎ ((passedOf (wrote answer .reply) whole .refused ≡ 0 → ⊥) × (after ≡ r))
+      → after ≡ wrote answer .register
+  filed-register (Answer′.Refused n) whole after (inl (none, e)) = absurd (omega (arith, refused-once n whole))
+  filed-register (Answer′.Refused n) whole after (inr (some, e)) = e
+  filed-register Answer′.Taken whole after (inl (none, e)) = e
+  filed-register Answer′.Taken whole after (inr (some, e)) = absurd (some refl)
+
+-- no refusal of what was sent stops a run
+goes-on : {R : Rule State Event ℕ} {m : Message} (r : Register) (buffer : List ℕ) (whole : ℕ) {sent : Sent} → Sending R r m sent
+    → passedOf (wroteOf r buffer (headingOf m .account) whole sent .reply) whole .stops ≡ false
+goes-on r buffer whole (refused n high) = rw (passed-skips n whole high)
+goes-on r buffer whole (taken free) = refl
 
 module _ (R : Rule State Event ℕ) (k : Suits R) (bytes : List ℕ) (r : Register) (ran : Ran) (entries : List ℕ) where
   -- what is left of the messages and of the entry buffer,
@@ -164,13 +176,24 @@ module _ (R : Rule State Event ℕ) (k : Suits R) (bytes : List ℕ) (r : Regist
               entries′ = rw (part, s) (omega (arith, message-is .1, step-bytes R k (accountAt r (headingOf m .account)) (ruleMessage m) (headingOf m .account)));
             }
 
+        -- the run goes on behind a message that was read and had room
+        pub turn-on : (reply : Reply) (passed : Passed) → reply ≡ filedOf (stepped .answer) (stepped .entries) (headingOf m .account) whole freePart .reply → passed ≡ passedOf reply whole
+            → passed .stops ≡ false
+        unfolding sentBy
+        turn-on reply passed a p =
+            let i = headingOf m .account in
+            let sent : sentBy R r m ≡ sentIn r i stepped = rw (le-ltb 15 i (omega (arith, named-low)), s) in
+            let replies : reply ≡ wroteOf r free i whole (sentBy R r m) .reply =
+            a ∙ rw (part-to-end entries (ran .written), sent) (filed-reply r free i whole (stepped .account) (stepped .entries) (stepped .answer)) in
+            rw (p, replies) (goes-on r free whole (sending R r m))
+
         pub turn-message : (reply : Reply) (passed : Passed) (last : List ℕ) (next : Register)
             → reply ≡ filedOf (stepped .answer) (stepped .entries) (headingOf m .account) whole freePart .reply
             → last ≡ filedOf (stepped .answer) (stepped .entries) (headingOf m .account) whole freePart .buffer
             → passed ≡ passedOf reply whole
-            → (passed .refused ≡ 0 → next ≡ withAccount r (headingOf m .account) (stepped .account)) → ((passed .refused ≡ 0 → ⊥) → next ≡ r)
+            → ((passed .refused ≡ 0) × (next ≡ withAccount r (headingOf m .account) (stepped .account))) ⊎ ((passed .refused ≡ 0 → ⊥) × (next ≡ r))
             → Turn R k bytes r ran entries next passed (putMid (ran .written) (length entries - ran .written) entries last)
-        turn-message reply passed last next a b p taken refused =
+        turn-message reply passed last next a b p came =
             let i = headingOf m .account in
             let part = part-to-end entries (ran .written) in
             let replies : reply ≡ wrote r free i whole (stepped .account) (stepped .entries) (stepped .answer) .reply = a ∙ rw part (filed-reply r free i whole (stepped .account) (stepped .entries) (stepped .answer)) in
@@ -178,9 +201,7 @@ module _ (R : Rule State Event ℕ) (k : Suits R) (bytes : List ℕ) (r : Regist
             record {
               comes = comes′ ∙ rw (call-is, whole-is);
               follows =
-                  filed-register r free i whole (stepped .account) (stepped .entries) (stepped .answer) whole next (λ z. taken (ap (λ (x : Passed). x .refused) comes′ ∙ z))
-                  (λ z. refused (λ y. z (sym (ap (λ (x : Passed). x .refused) comes′) ∙ y)))
-                  ∙ rw call-is;
+                  filed-register r free i whole (stepped .account) (stepped .entries) (stepped .answer) whole next (rw comes′ at came) ∙ rw call-is;
               leaves =
                   rw (
                     post-is (ran .written) (length entries) entries (look .room),

@@ -62,7 +62,9 @@ pub fn run(messages: &[u8], entries: &mut [u8]) -> Ran
                 let filed = heading.filed;
                 let account = accounts[at];
                 let stepped = account.request(heading.transaction, filed, event);
-                let reply = file(stepped.answer, stepped.entries, heading.account, whole, &mut entries[to..]);
+                let answer = stepped.answer;
+                let made = stepped.entries;
+                let reply = file(answer, made, heading.account, whole, &mut entries[to..]);
                 let passed = passed_by(reply, whole);
                 if passed.refused == 0 {
                     let next = stepped.account;
@@ -75,7 +77,9 @@ pub fn run(messages: &[u8], entries: &mut [u8]) -> Ran
                 let filed = heading.filed;
                 let account = accounts[at];
                 let stepped = account.commit(heading.transaction, filed);
-                let reply = file(stepped.answer, stepped.entries, heading.account, whole, &mut entries[to..]);
+                let answer = stepped.answer;
+                let made = stepped.entries;
+                let reply = file(answer, made, heading.account, whole, &mut entries[to..]);
                 let passed = passed_by(reply, whole);
                 if passed.refused == 0 {
                     let next = stepped.account;
@@ -88,7 +92,9 @@ pub fn run(messages: &[u8], entries: &mut [u8]) -> Ran
                 let filed = heading.filed;
                 let account = accounts[at];
                 let stepped = account.abort(heading.transaction, filed);
-                let reply = file(stepped.answer, stepped.entries, heading.account, whole, &mut entries[to..]);
+                let answer = stepped.answer;
+                let made = stepped.entries;
+                let reply = file(answer, made, heading.account, whole, &mut entries[to..]);
                 let passed = passed_by(reply, whole);
                 if passed.refused == 0 {
                     let next = stepped.account;
