@@ -8,7 +8,7 @@ use mathlib.Core.Bool.{Bool, true, false, cond}
 use mathlib.Core.List.{List, [], _∷_, map}
 use borrow.Author.Tests.{eqb-true, eqb-false, ltb-false}
 use lib.Dec.{eqb, ltb}
-use lib.ListN.{length, length-set, getD-replicate}
+use lib.ListN.{length-set, getD-replicate}
 use lib.Seq.{getD-set-same, getD-set-other}
 use Rattle.rule.specs.Rule as rule
 use Rattle.rule.specs.Call as rule-call
@@ -20,7 +20,7 @@ use Rattle.events.specs.declared.Event.{Event}
 use Rattle.events.specs.declared.State.{State}
 use Rattle.filing.specs.declared.Filed.{Filed}
 use Rattle.filing.specs.declared.Entry.{Entry}
-use Rattle.filing.specs.Entries.{RuleEntry, entryOf, entriesOf}
+use Rattle.filing.specs.Entries.{RuleEntry, entriesOf}
 use Rattle.account.specs.declared.Account.{Account}
 use Rattle.account.specs.declared.Answer.the-variants as Answer′
 use Rattle.account.specs.Places.{RuleAccount, listsOf, accountOf}
@@ -32,7 +32,6 @@ use Rattle.message.specs.declared.Message.{Message}
 use Rattle.message.specs.Bytes.{headingOf}
 use Rattle.entry.specs.Bytes.{listOf}
 use Rattle.register.specs.declared.Register.{Register}
-use Rattle.register.specs.declared.Sent.{Sent}
 use Rattle.register.specs.Register.{nowhere, accountAt, withAccount, ruleMessage, notSent, sentIn, freshBy, sentBy}
 use Rattle.register.specs.Sequence.{ruleEntry}
 use Rattle.register.specs.Filed.{SameAccount, SameRegister, SameSent, FiledNeverMatters}

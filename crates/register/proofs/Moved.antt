@@ -24,7 +24,7 @@ use Rattle.register.specs.Run.{lengthAt, passedOf}
 use Rattle.register.proofs.Whole.{some-bytes}
 use Rattle.register.proofs.Passed.{passed-stops, passed-skips}
 use Rattle.register.proofs.Suits.{Suits}
-use Rattle.register.proofs.Standing.{Stands, Refusable, Told, told-read}
+use Rattle.register.proofs.Standing.{Stands, Refusable, told-read}
 use Rattle.register.proofs.Sending.{taking, taken-bytes}
 use Rattle.register.proofs.Calling.{Calling, refused, taken, calling}
 

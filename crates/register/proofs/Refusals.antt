@@ -2,15 +2,14 @@
 -- asks of its lists is asked of the used places by a law each.
 -- Assumes nothing.
 use Prim.Native.Nat.{ℕ, suc, _≤_, _^_}
-use mathlib.Core.Path.{_≡_, refl, sym, _∙_, ap, ap₂}
+use mathlib.Core.Path.{_≡_, refl, _∙_, ap, ap₂}
 use mathlib.Core.Bool.{Bool, true, false, cond, _&&_, _||_, not}
 use mathlib.Core.List.{List, [], _∷_, map}
 use mathlib.Core.Option.{Option, none, some}
-use native.Mathlib.Omega.{arith}
 use lib.Count.{ones}
 use lib.Dec.{eqb, leb, ltb}
 use lib.ListN.{length, length-map}
-use borrow.Author.Tests.{eqb-true, eqb-false, leb-true, leb-false, lt-ltb, le-ltb, ltb-false}
+use borrow.Author.Tests.{leb-true, leb-false, lt-ltb, le-ltb, ltb-false}
 use Rattle.rule.specs.Lists.{some-of, keep}
 use Rattle.rule.specs.Rule as rule
 use Rattle.rule.specs.Tests.{Test, test, firstOf}
@@ -18,12 +17,11 @@ use Rattle.rule.specs.Outcome.{undecidedOf, appliedIn, bit}
 use Rattle.rule.specs.Exact.{chosenState}
 use Rattle.rule.specs.Step as rule-step
 use Rattle.rule.specs.Call as rule-call
-use Rattle.rule.proofs.Lists.{some-map, and-left, and-right}
+use Rattle.rule.proofs.Lists.{some-map}
 use Rattle.rule.proofs.Exact.{numbered}
 use Rattle.events.specs.declared.Event.{Event}
 use Rattle.events.specs.declared.Event.the-variants.{Open, Withdraw, Deposit, Close}
 use Rattle.events.specs.declared.State.{State}
-use Rattle.events.specs.Kinds.{eventKind, eventOf}
 use Rattle.filing.specs.declared.Filed.{Filed}
 use Rattle.filing.specs.declared.Decision.{Decision}
 use Rattle.filing.specs.declared.Decision.the-variants.{Undecided, Committed}
@@ -36,11 +34,10 @@ use Rattle.account.specs.declared.Outlook.the-variants as Outlook′
 use Rattle.account.specs.Places.{listsOf}
 use Rattle.account.specs.InOrder.{inOrderBy}
 use Rattle.account.specs.Steps.{refusalIn, refusedBy, steppedBy, stepBy, shownBy, outlookBy}
-use Rattle.message.specs.declared.Heading.{Heading}
 use Rattle.message.specs.declared.Message.{Message}
 use Rattle.message.specs.declared.Message.the-variants.{Request, Commit, Abort}
 use Rattle.message.specs.declared.Reading.the-variants as Reading′
-use Rattle.message.specs.Bytes.{kindOf, headingOf, messageBy}
+use Rattle.message.specs.Bytes.{kindOf, headingOf}
 use Rattle.message.proofs.Reader.{headingAt}
 use Rattle.layout.specs.Fields.{lastAccount}
 use Rattle.layout.specs.Number.{numberAt}
@@ -48,7 +45,7 @@ use Rattle.register.specs.declared.Register.{Register}
 use Rattle.register.specs.declared.Sent.{Sent}
 use Rattle.register.specs.Register.{accountAt, ruleMessage, notSent, sentIn, sentBy, askedBy}
 use Rattle.register.specs.Call.{refusalOf, refusedWith, wroteOf, afterMessage, afterReading, calledBy}
-use Rattle.register.specs.Refusals.{transactionIn, accountIn, lengthBy, progressIn, heldIn, isInProgress, isHeld, isCommitted, undecidedIn, answeredAs, accountTests, sendTests, SendRefuses, CallRefuses, OutlookTells}
+use Rattle.register.specs.Refusals.{transactionIn, accountIn, lengthBy, progressIn, heldIn, isInProgress, isHeld, isCommitted, undecidedIn, answeredAs, accountTests, SendRefuses, CallRefuses, OutlookTells}
 use Rattle.register.proofs.ReadAs.{transaction-at, kindIn, messageIn, named-account, reading, heading-by, kind-by}
 
 -- The rule's tests on its lists are tests on the used places.

@@ -2,10 +2,9 @@
 -- only in what is filed; what is sent then agrees but for that; and so do the bytes of the entries. A sequence by induction.
 -- Assumes nothing.
 use Prim.Native.Nat.{ℕ}
-use native.Mathlib.Omega.{arith}
 use mathlib.Core.Path.{_≡_, refl, sym, _∙_, ap}
 use mathlib.Core.Bool.{Bool, true, false, cond}
-use mathlib.Core.List.{List, map}
+use mathlib.Core.List.{List}
 use lib.Dec.{ltb}
 use lib.ListN.{length, take, drop}
 use lib.Seq.{take-at, drop-at}
@@ -13,10 +12,9 @@ use Rattle.rule.specs.Rule.{Rule}
 use Rattle.events.specs.declared.Event.{Event}
 use Rattle.events.specs.declared.State.{State}
 use Rattle.filing.specs.declared.Entries.{Entries}
-use Rattle.filing.specs.declared.Entry.{Entry}
 use Rattle.account.specs.declared.Answer.{Answer}
 use Rattle.account.specs.declared.Answer.the-variants as Answer′
-use Rattle.rule.specs.Filed.{messageThrough, entryThrough}
+use Rattle.rule.specs.Filed.{messageThrough}
 use Rattle.message.specs.declared.Message.{Message}
 use Rattle.message.specs.declared.Reading.{Reading}
 use Rattle.message.specs.Bytes.{headingOf}
@@ -27,7 +25,7 @@ use Rattle.register.specs.declared.Reply.the-variants.{Taken}
 use Rattle.register.specs.declared.Sent.{Sent}
 use Rattle.register.specs.Register.{ruleMessage, freshBy, sentBy}
 use Rattle.register.specs.Call.{writtenOf, Result, refusedWith, wroteOf, wroteAs, afterMessage, afterReading, calledBy}
-use Rattle.register.specs.Sequence.{Input, ruleEntry, exchanges}
+use Rattle.register.specs.Sequence.{Input, exchanges}
 use Rattle.register.specs.Filed as filed
 use Rattle.register.specs.Seconds.{SameMessage, OtherSeconds, none, one-more, SameEntries, no-entry, SameExchanges, none-seen, one-seen, SecondsNeverMatter}
 use Rattle.register.proofs.Suits.{Suits}

@@ -4,16 +4,15 @@
 use Prim.Native.Nat.{ℕ, _≤_}
 use mathlib.Core.Path.{_≡_, refl, sym, _∙_, ap}
 use mathlib.Core.List.{List, [], _∷_, _++_, map}
-use mathlib.Core.Option.{none, some}
+use mathlib.Core.Option.{none}
 use native.Mathlib.Omega.{arith}
 use borrow.Author.Tests.{le-ltb}
-use lib.ListN.{length, take, drop}
+use lib.ListN.{length, drop}
 use lib.Seq.{take-at}
 use Rattle.rule.specs.Rule.{Rule}
 use Rattle.events.specs.declared.Event.{Event}
 use Rattle.events.specs.declared.State.{State}
 use Rattle.filing.specs.Entries.{RuleEntry, entryOf, entriesOf}
-use Rattle.account.specs.declared.Answer.the-variants.{Refused, Taken}
 use Rattle.account.specs.Steps.{refusalIn}
 use Rattle.message.specs.declared.Message.{Message}
 use Rattle.message.specs.Bytes.{headingOf, bytesOfMessage, lengthOfMessage}
@@ -24,9 +23,9 @@ use Rattle.entry.specs.Answers.{longestCall}
 use Rattle.entry.proofs.CallFits.{listed}
 use Rattle.register.specs.declared.Register.{Register}
 use Rattle.register.specs.declared.Sent.{Sent}
-use Rattle.register.specs.Register.{accountAt, freshBy, sentBy}
-use Rattle.register.specs.Call.{Result, writtenOf, wroteOf, afterMessage, calledBy}
-use Rattle.register.specs.Sequence.{Input, ByteStrings, after, exchanges, seenBy, ruleEntry, entriesIn}
+use Rattle.register.specs.Register.{freshBy, sentBy}
+use Rattle.register.specs.Call.{wroteOf, afterMessage, calledBy}
+use Rattle.register.specs.Sequence.{after, exchanges, seenBy, ruleEntry, entriesIn}
 use Rattle.register.specs.Sends.{IsSent, CallIsSend, SentReadsBack}
 use Rattle.register.proofs.Suits.{Suits}
 use Rattle.register.proofs.ReadBack.{value-back}

@@ -12,7 +12,6 @@ use lib.ListN.{length, take, drop, length-set, getD-replicate}
 use lib.Seq.{take-at, getD-set-same, getD-set-other}
 use borrow.Author.Tests.{eqb-true, eqb-false}
 use Rattle.rule.specs.Rule as rule
-use Rattle.rule.specs.Step.{step}
 use Rattle.rule.specs.Call as rule-call
 use Rattle.rule.specs.History.{Seen}
 use Rattle.rule.specs.Says.{MessageSays, AccountSays, EntriesSay}
@@ -41,12 +40,12 @@ use Rattle.register.specs.declared.Register.{Register}
 use Rattle.register.specs.Register.{nowhere, accountAt, ruleMessage, freshBy}
 use Rattle.register.specs.Call.{Result, refusalOf, writtenOf, refusedWith, calledBy}
 use Rattle.register.specs.Fits.{EventFits, CommitFits, StateFits, BalanceFits}
-use Rattle.register.specs.Sequence.{Input, Exchange, ByteStrings, after, exchanges, answerIn, seenOf, seenBy, entriesIn, OnlyEntries, EachOnlyEntries, SerialPast}
+use Rattle.register.specs.Sequence.{Input, ByteStrings, after, exchanges, answerIn, seenOf, seenBy, entriesIn, OnlyEntries, EachOnlyEntries, SerialPast}
 use Rattle.register.proofs.Suits.{Suits}
 use Rattle.register.proofs.ReadAs.{account-read}
 use Rattle.register.proofs.ReadBack.{entries-back}
 use Rattle.register.proofs.Sending.{lists, taking, Free}
-use Rattle.register.proofs.Calling.{takenAs, Takes, Calling, refused, taken, calling}
+use Rattle.register.proofs.Calling.{takenAs, Calling, refused, taken, calling}
 
 -- what a message that was read brings fits
 pub message-fits : (m : Message) → Writable m → MessageSays EventFits CommitFits (ruleMessage m)

@@ -26,7 +26,7 @@ use Rattle.entry.specs.Answers.{longestCall}
 use Rattle.register.specs.declared.Register.{Register}
 use Rattle.register.specs.declared.Sent.{Sent}
 use Rattle.register.specs.declared.Reply.the-variants.{Refused, Taken}
-use Rattle.register.specs.Register.{nowhere, accountAt, sentBy}
+use Rattle.register.specs.Register.{nowhere, accountAt}
 use Rattle.register.specs.Call.{Result, refusalOf, consumedOf, writtenOf, refusedWith, calledBy}
 use Rattle.register.specs.Refusals.{accountIn, lengthBy, callTests}
 use Rattle.register.specs.Unchanged.{SendLeaves, Refusal, Taking, RepliesApart}

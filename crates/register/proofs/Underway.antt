@@ -4,11 +4,11 @@
 use Prim.Native.Nat.{ℕ, zero, suc, _+_, _-_, _≤_, _<_, _^_}
 use mathlib.Core.Path.{_≡_, refl, sym, _∙_, ap}
 use mathlib.Core.Bool.{true, false, cond}
-use mathlib.Core.List.{List, [], _++_, append-assoc, append-nil}
+use mathlib.Core.List.{List, [], _++_, append-assoc}
 use native.Mathlib.Nat.{add-assoc, add-zero, zero-add}
 use native.Mathlib.Omega.{arith}
 use lib.ListN.{length, take, drop, take-append-drop, length-append, length-drop}
-use lib.Seq.{drop-drop, drop-length, take-append-add, drop-append-add, length-take-le}
+use lib.Seq.{drop-drop, take-append-add, drop-append-add, length-take-le}
 use borrow.Author.Tests.{eq-eqb, ne-eqb}
 use Rattle.rule.specs.Rule.{Rule}
 use Rattle.events.specs.declared.Event.{Event}

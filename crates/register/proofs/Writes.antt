@@ -1,7 +1,7 @@
 -- Entries that have room are written, and what the code has at hand is what is filed of them; each way out of `file`, of `send` and of `call` is one law.
 -- Assumes nothing.
 use Prim.Native.Nat.{ℕ, _<_, _≤_}
-use mathlib.Core.Path.{_≡_, refl, sym, _∙_, ap}
+use mathlib.Core.Path.{_≡_, sym, _∙_, ap}
 use mathlib.Core.List.{List}
 use native.Mathlib.Omega.{arith}
 use lib.ListN.{length}
@@ -31,7 +31,7 @@ use Rattle.register.specs.declared.Sent.{Sent}
 use Rattle.register.specs.declared.Reply.{Reply}
 use Rattle.register.specs.declared.Reply.the-variants.{Refused, Taken}
 use Rattle.register.specs.Register.{accountAt, withAccount, ruleMessage, notSent, sentIn, sentBy}
-use Rattle.register.specs.Call.{Result, refusedWith, wroteOf, afterMessage, calledBy}
+use Rattle.register.specs.Call.{refusedWith, wroteOf, afterMessage, calledBy}
 use Rattle.register.specs.Numbers.{readingNumber, stepNumber}
 use Rattle.register.specs.Filing.{filedOf, Fitting}
 use Rattle.register.proofs.Suits.{Suits}

@@ -1,6 +1,5 @@
 -- Each kind by the step of its own.
 -- Assumes nothing.
-use mathlib.Core.Path.{_∙_}
 use borrow.Author.Needs.{needs}
 use Rattle.register.proofs.step.Statement.{statement}
 use Rattle.register.proofs.step.Tie as tie

@@ -2,8 +2,6 @@ use borrow.Author.Needs.{needs}
 use Rattle.filing.specs.Entries.{entriesOf}
 use Rattle.register.proofs.Register.not_sent.Statement.{statement}
 use Rattle.register.proofs.Register.not_sent.Tie as tie
-use Rattle.register.proofs.Register.not_sent.Reads as reads
-use Rattle.register.proofs.Register.not_sent.Lts as lts
 
 -- src/lib.rt:128:5
 returns : tie.Need-returns

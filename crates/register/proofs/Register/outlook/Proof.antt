@@ -4,9 +4,6 @@ use Rattle.register.specs.Register.{askedBy}
 use borrow.Author.Needs.{needs}
 use Rattle.register.proofs.Register.outlook.Statement.{statement}
 use Rattle.register.proofs.Register.outlook.Tie as tie
-use Rattle.register.proofs.Register.outlook.Reads as reads
-use Rattle.register.proofs.Register.outlook.Lts as lts
-use Rattle.account.proofs.Account.outlook.Reads as outlook-reads
 
 -- src/lib.rt:77:13
 returns : tie.Need-returns

@@ -2,7 +2,7 @@
 -- Every turn is one of `proofs/Turned.antt`: a refusal of the reader or of the room, or a message to the account that it names, of each kind alike.
 -- Assumes nothing.
 use Prim.Native.Nat.{ℕ, _-_, _≤_, _<_}
-use mathlib.Core.Path.{_≡_, refl, sym, _∙_, ap}
+use mathlib.Core.Path.{_≡_, sym, _∙_, ap}
 use mathlib.Core.Logic.{inl, inr, ⊎-elim}
 use mathlib.Core.Bool.{false}
 use mathlib.Core.List.{List}
@@ -17,7 +17,7 @@ use Rattle.message.specs.declared.Reading.the-variants as Reading′
 use Rattle.register.specs.declared.Register.{Register}
 use Rattle.register.specs.Run.{Run}
 use Rattle.register.proofs.Suits.{panel-suits}
-use Rattle.register.proofs.Underway.{Underway, starts, ends, Turn, size-kept, countable, stops-there, goes-on, less-left}
+use Rattle.register.proofs.Underway.{Underway, starts, ends, Turn, countable, stops-there, goes-on, less-left}
 use Rattle.register.proofs.Turned.{Looked, turn-refused, named-low, turn-fits, turn-message, turn-on}
 use Rattle.register.proofs.runs.run.Statement.{statement}
 use Rattle.register.proofs.runs.run.Tie as tie
