@@ -6,7 +6,7 @@ use mathlib.Core.List.{List, [], _∷_}
 use mathlib.Core.Option.{none, some}
 use Rattle.register.specs.declared.Reply.the-variants.{Refused, Taken}
 use Rattle.register.specs.Call.{refusalOf, consumedOf, writtenOf}
-use Rattle.register.specs.Run.{runOf, exportOf}
+use Rattle.register.specs.First.{runOf, exportOf}
 
 pub record AnswerForm : Type 0 where
   pub refused : (n : ℕ) → (refusalOf (Refused n) ≡ some n) × (consumedOf (Refused n) ≡ 0) × (writtenOf (Refused n) ≡ 0)
