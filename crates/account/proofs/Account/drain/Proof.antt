@@ -10,7 +10,7 @@ use borrow.Author.Needs.{needs}
 use Rattle.filing.specs.Entries.{isAccepted}
 use Rattle.account.proofs.Places.{as-many}
 use Rattle.account.proofs.Known.{knows-few}
-use Rattle.account.proofs.Voting.{Voting, voting-none, voting-stays, voting-accept, voting-reject, voting-all, drained-idle}
+use Rattle.account.proofs.Voting.{Voting, voting-none, voting-stays, voting-accept, voting-reject, voting-all}
 use Rattle.account.proofs.Account.drain.Statement.{statement}
 use Rattle.account.proofs.Account.drain.Tie as tie
 
@@ -20,15 +20,12 @@ Inv-loop self next₀ entries₀ outcomes₀ voted₀ at₀ next entries outcome
 abbrev μ-loop : tie.MeasureT-loop
 μ-loop self next₀ entries₀ outcomes₀ voted₀ at₀ next entries outcomes voted at = self .holding - at
 
-returns : tie.Need-returns Inv-loop μ-loop
-returns c = let a = c .before .before .args in drained-idle (a .self) (a .written) (c .if1 .taken)
-
 outcomes-requires : tie.Need-outcomes-requires Inv-loop μ-loop
 outcomes-requires c κs = search needs
 
 loop-holds : tie.Need-loop-holds Inv-loop μ-loop
 loop-holds c =
-    let start = c .before .before .before in
+    let start = c .before in
     let a = start .args .self in
     let size : length (a .progress) ≡ 8 = as-many (a .progress) (start .good .0 .1 .1 .1 .0 .1 .0 .1) in
     let sizeHeld : length (a .held) ≡ 8 = as-many (a .held) (start .good .0 .1 .1 .1 .1 .1 .0 .1 .0 .1) in
@@ -43,8 +40,8 @@ element-copy-out-slot c = search needs
 decide-requires : tie.Need-decide-requires Inv-loop μ-loop
 decide-requires c κs = search needs
 
-mul-t19 : tie.Need-mul-t19 Inv-loop μ-loop
-mul-t19 c = search needs
+mul-t15 : tie.Need-mul-t15 Inv-loop μ-loop
+mul-t15 c = search needs
 
 element-set-from-next : tie.Need-element-set-from-next Inv-loop μ-loop
 element-set-from-next c = search needs
@@ -59,10 +56,10 @@ mul-slot-2 : tie.Need-mul-slot-2 Inv-loop μ-loop
 mul-slot-2 c = search needs
 
 -- a request is accepted only where a place is free
-accepted : (c : tie.Then4 Inv-loop μ-loop) → isAccepted (c .before .before .before .before .decide .result .verdict) ≡ true
-accepted c = sym (c .before .is-accepted .ensures) ∙ c .if4 .taken
+accepted : (c : tie.Then3 Inv-loop μ-loop) → isAccepted (c .before .before .before .before .decide .result .verdict) ≡ true
+accepted c = sym (c .before .is-accepted .ensures) ∙ c .if3 .taken
 
-free : (c : tie.Then4 Inv-loop μ-loop) →
+free : (c : tie.Then3 Inv-loop μ-loop) →
     let test = c .before .before .before in
     test .before .before .before .before .before .loop .next .progressing < 8
 free c = c .before .before .before .before .decide .ensures .free (accepted c)
@@ -82,8 +79,8 @@ with-requires c κs =
 voted-requires : tie.Need-voted-requires Inv-loop μ-loop
 voted-requires c κs = search needs
 
-mul-t37 : tie.Need-mul-t37 Inv-loop μ-loop
-mul-t37 c = search needs
+mul-t33 : tie.Need-mul-t33 Inv-loop μ-loop
+mul-t33 c = search needs
 
 element-set-from-entries : tie.Need-element-set-from-entries Inv-loop μ-loop
 element-set-from-entries c = search needs
@@ -114,9 +111,9 @@ loop-again c =
     let test = c .before in
     let weigh = test .before .decide in
     let way = test .before .before .before .before .before in
-    let a = way .before .before .before .before .args in
+    let a = way .before .before .args in
     let v = way .loop in
-    let below : v .at < a .self .holding = test .before .before .before .if2 .taken in
+    let below : v .at < a .self .holding = test .before .before .before .if1 .taken in
     ⊎-elim
     (λ w.
     let first = rw (test .is-held .ensures) at (w .0 .taken) in
@@ -126,17 +123,17 @@ loop-again c =
     (λ u. rw (w .4, w .5, w .6, w .7, u .1, u .2) (voting-reject (a .self) (a .written) (v .next) (v .entries) (v .outcomes) (v .voted) (v .at) (v .inv) below (weigh .result) (weigh .ensures) (entry .result) (entry .ensures) first (sym (w .1 .ensures) ∙ u .0 .left)))
     (w .2 .came))
     (λ w. rw (w .1, w .2, w .3, w .4) (voting-stays (a .self) (a .written) (v .next) (v .entries) (v .outcomes) (v .voted) (v .at) (v .inv) below (weigh .result) (weigh .ensures) (rw (test .is-held .ensures) at (w .0 .left))))
-    (c .if3 .came)
+    (c .if2 .came)
 
 sub-next : tie.Need-sub-next Inv-loop μ-loop
 sub-next c = search needs
 
-returns-2 : tie.Need-returns-2 Inv-loop μ-loop
-returns-2 c =
+returns : tie.Need-returns Inv-loop μ-loop
+returns c =
     let way = c .before .before .before in
-    let a = way .before .before .before .before .args in
+    let a = way .before .before .args in
     let v = way .loop in
-    voting-all (a .self) (a .written) (v .next) (v .entries) (v .outcomes) (v .voted) (v .at) (v .inv) (c .before .if2 .left)
+    voting-all (a .self) (a .written) (v .next) (v .entries) (v .outcomes) (v .voted) (v .at) (v .inv) (c .before .if1 .left)
 
 pub drain-spec : {M : Type 1} → statement M
 drain-spec =
@@ -144,13 +141,12 @@ drain-spec =
     (tie.spec
     Inv-loop
     μ-loop
-    returns
     outcomes-requires
     loop-holds
     mul-slot
     element-copy-out-slot
     decide-requires
-    mul-t19
+    mul-t15
     element-set-from-next
     is-held-requires
     is-accepted-requires
@@ -159,7 +155,7 @@ drain-spec =
     add-next
     with-requires
     voted-requires
-    mul-t37
+    mul-t33
     element-set-from-entries
     add-entries
     add-voted
@@ -170,4 +166,4 @@ drain-spec =
     loop-less
     loop-again
     sub-next
-    returns-2)
+    returns)

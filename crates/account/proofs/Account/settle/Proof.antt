@@ -9,12 +9,12 @@ use lib.Seq.{set-out}
 use borrow.Author.Needs.{needs}
 use Rattle.rule.specs.Rule.{applied}
 use Rattle.events.specs.declared.State.{State}
-use Rattle.filing.specs.declared.Entries.{Entries}
-use Rattle.filing.specs.Entries.{entryOf}
+use Rattle.filing.specs.Entries.{entryOf, onlyEntry}
 use Rattle.filing.specs.Slots.{committedSlot, blank}
 use Rattle.account.specs.Taken.{markedAt}
 use Rattle.account.proofs.Places.{as-many}
 use Rattle.account.proofs.Applying.{Applying, applying-none, applying-stays, applying-next, applying-all}
+use Rattle.account.proofs.Voting.{drained-idle}
 use Rattle.account.proofs.Account.settle.Statement.{statement}
 use Rattle.account.proofs.Account.settle.Tie as tie
 
@@ -40,25 +40,24 @@ mul-t15 c = search needs
 element-set-from-next : tie.Need-element-set-from-next Inv-loop μ-loop
 element-set-from-next c = search needs
 
-only-requires : tie.Need-only-requires Inv-loop μ-loop
-only-requires c κs = search needs
+element-set-from-first : tie.Need-element-set-from-first Inv-loop μ-loop
+element-set-from-first c = search needs
 
 loop-holds : tie.Need-loop-holds Inv-loop μ-loop
 loop-holds c =
-    let join = c .before .before in
+    let join = c .before in
     let start = join .before in
     let a = start .args in
     let row = a .self .progress in
     let size : length row ≡ 8 = as-many row (start .good .0 .1 .1 .1 .0 .1 .0 .1) in
-    let one : c .before .only .result .count ≡ 1 = ap (λ (l : Entries). l .count) (c .before .only .ensures) in
     ⊎-elim
     (λ w. rw (w .3) (
       ap (set row (a .marked)) (w .2 .ensures),
-      applying-none (a .self) _ (c .before .only .result) (start .pre .0) (rw (length-set row (a .marked) (w .2 .result)) (omega arith)) one refl refl,
+      applying-none (a .self) _ (onlyEntry (a .first)) (start .pre .0) (rw (length-set row (a .marked) (w .2 .result)) (omega arith)) refl refl refl,
     ))
     (λ w. rw (w .1) (
       sym (set-out row (a .marked) (committedSlot (getD row (a .marked) blank)) (omega (arith, w .0 .left))),
-      applying-none (a .self) (a .self) (c .before .only .result) (start .pre .0) (omega arith) one refl refl,
+      applying-none (a .self) (a .self) (onlyEntry (a .first)) (start .pre .0) (omega arith) refl refl refl,
     ))
     (join .if1 .came)
 
@@ -68,8 +67,8 @@ mul-slot-2 c = search needs
 element-copy-out-slot-2 : tie.Need-element-copy-out-slot-2 Inv-loop μ-loop
 element-copy-out-slot-2 c = search needs
 
-mul-t23 : tie.Need-mul-t23 Inv-loop μ-loop
-mul-t23 c = search needs
+mul-t29 : tie.Need-mul-t29 Inv-loop μ-loop
+mul-t29 c = search needs
 
 element-set-from-next-2 : tie.Need-element-set-from-next-2 Inv-loop μ-loop
 element-set-from-next-2 c = search needs
@@ -83,8 +82,8 @@ effect-requires c κs = search needs
 applied-requires : tie.Need-applied-requires Inv-loop μ-loop
 applied-requires c κs = search needs
 
-mul-t36 : tie.Need-mul-t36 Inv-loop μ-loop
-mul-t36 c = search needs
+mul-t42 : tie.Need-mul-t42 Inv-loop μ-loop
+mul-t42 c = search needs
 
 element-set-from-entries : tie.Need-element-set-from-entries Inv-loop μ-loop
 element-set-from-entries c = search needs
@@ -114,7 +113,7 @@ loop-again : tie.Need-loop-again Inv-loop μ-loop
 loop-again c =
     let test = c .before in
     let way = test .before .before .before .before in
-    let join = way .before .before .before in
+    let join = way .before .before in
     let a = join .before .args in
     let v = way .loop in
     let x = getD (v .next .progress) (v .at) blank in
@@ -124,10 +123,10 @@ loop-again c =
           (λ w.
           let first = rw (test .is-undecided .ensures) at (w .0 .taken) in
           let entry = w .2 .ensures ∙ ap (λ (s : State). entryOf (applied (x .transaction) (x .filed) (x .event) (s .balance))) (w .1 .ensures) in
-          rw (w .3, w .4, w .5, w .6, w .1 .ensures) (applying-next (a .self) (join .if1 .next .progress) (way .before .before .only .result) (v .next) (v .entries) (v .state) (v .ended) (v .at) (v .inv .1) below (w .2 .result) entry first))
+          rw (w .3, w .4, w .5, w .6, w .1 .ensures) (applying-next (a .self) (join .if1 .next .progress) (onlyEntry (a .first)) (v .next) (v .entries) (v .state) (v .ended) (v .at) (v .inv .1) below (w .2 .result) entry first))
           (λ w.
           let later = rw (test .is-undecided .ensures) at (w .0 .left) in
-          rw (w .1, w .2, w .3, w .4) (applying-stays (a .self) (join .if1 .next .progress) (way .before .before .only .result) (v .next) (v .entries) (v .state) (v .ended) (v .at) (v .inv .1) below later))
+          rw (w .1, w .2, w .3, w .4) (applying-stays (a .self) (join .if1 .next .progress) (onlyEntry (a .first)) (v .next) (v .entries) (v .state) (v .ended) (v .at) (v .inv .1) below later))
           (c .if3 .came),
     )
 
@@ -136,20 +135,30 @@ sub-next c = search needs
 
 drain-requires : tie.Need-drain-requires Inv-loop μ-loop
 drain-requires c κs =
-    let way = c .before .before .before in
+    let way = c .before .before .before .before in
     let v = way .loop in
-    let start = way .before .before .before .before in
+    let start = way .before .before .before in
     omega (arith, v .inv .1 .within, v .inv .1 .counts, v .inv .1 .holding, start .pre)
 
 returns : tie.Need-returns Inv-loop μ-loop
 returns c =
-    let way = c .before .before .before .before in
-    let join = way .before .before .before in
+    let way = c .before .before .before .before .before in
+    let join = way .before .before in
     let start = join .before in
     let a = start .args in
     let v = way .loop in
     let size : length (a .self .progress) ≡ 8 = as-many (a .self .progress) (start .good .0 .1 .1 .1 .0 .1 .0 .1) in
-    applying-all (a .self) (a .marked) (a .first) (join .if1 .next .progress) (way .before .before .only .result) (v .next) (v .entries) (v .state) (v .ended) (v .at) (v .inv .1) (omega arith) (v .inv .0) size (way .before .before .only .ensures) (c .drain .result) (c .drain .ensures)
+    applying-all (a .self) (a .marked) (a .first) (join .if1 .next .progress) (onlyEntry (a .first)) (v .next) (v .entries) (v .state) (v .ended) (v .at) (v .inv .1) (omega arith) (v .inv .0) size refl (c .drain .result) (c .drain .ensures)
+
+returns-2 : tie.Need-returns-2 Inv-loop μ-loop
+returns-2 c =
+    let way = c .before .before .before .before in
+    let join = way .before .before in
+    let start = join .before in
+    let a = start .args in
+    let v = way .loop in
+    let size : length (a .self .progress) ≡ 8 = as-many (a .self .progress) (start .good .0 .1 .1 .1 .0 .1 .0 .1) in
+    applying-all (a .self) (a .marked) (a .first) (join .if1 .next .progress) (onlyEntry (a .first)) (v .next) (v .entries) (v .state) (v .ended) (v .at) (v .inv .1) (omega arith) (v .inv .0) size refl _ (drained-idle _ (v .entries) (omega arith))
 
 pub settle-spec : {M : Type 1} → statement M
 settle-spec =
@@ -162,16 +171,16 @@ settle-spec =
     committed-requires
     mul-t15
     element-set-from-next
-    only-requires
+    element-set-from-first
     loop-holds
     mul-slot-2
     element-copy-out-slot-2
-    mul-t23
+    mul-t29
     element-set-from-next-2
     is-undecided-requires
     effect-requires
     applied-requires
-    mul-t36
+    mul-t42
     element-set-from-entries
     add-entries
     add-ended
@@ -183,4 +192,5 @@ settle-spec =
     loop-again
     sub-next
     drain-requires
-    returns)
+    returns
+    returns-2)
