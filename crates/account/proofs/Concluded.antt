@@ -23,8 +23,8 @@ use Rattle.account.specs.Places.{used, listsOf}
 use Rattle.account.specs.InOrder.{inOrderBy}
 use Rattle.account.specs.declared.outcomes.Outcomes.{Outcomes}
 use Rattle.account.specs.First.{panel, inOrderOf}
-use Rattle.account.specs.Known.{Knows}
-use Rattle.account.specs.Judged.{allDiffer, Judges}
+use Rattle.account.specs.inside.Known.{Knows}
+use Rattle.account.specs.inside.Judged.{allDiffer, Judges}
 use Rattle.account.proofs.Clauses as ordered
 use Rattle.account.proofs.Sought.{lastNamed, only-found}
 use Rattle.account.proofs.Passed.{transactionIn, EventsPassed, RequestsPassed}

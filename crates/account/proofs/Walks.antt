@@ -28,7 +28,7 @@ use Rattle.account.specs.declared.question.Reached.{Reached}
 use Rattle.account.specs.Places.{used, listsOf}
 use Rattle.account.specs.InOrder.{inOrderBy}
 use Rattle.account.specs.Steps.{outlookBy}
-use Rattle.account.specs.Reached.{reached, followed, reachedPast}
+use Rattle.account.specs.inside.Reached.{reached, followed, reachedPast}
 use Rattle.account.proofs.Slices.{usedFrom, used-end, used-next}
 
 half : (n u : ℕ) → n / 2 / 2 ^ u ≡ n / 2 ^ suc u

@@ -12,7 +12,7 @@ use Rattle.rule.proofs.Lists.{or-left, or-right}
 use Rattle.filing.specs.Slots.{places, blank}
 use Rattle.account.specs.Places.{used}
 use Rattle.account.specs.First.{panel}
-use Rattle.account.specs.Known.{Knows}
+use Rattle.account.specs.inside.Known.{Knows}
 use Rattle.account.proofs.Places.{as-many, used-more, count-used}
 use Rattle.account.proofs.Known.{knows-few, knows-end}
 use Rattle.account.proofs.Sought.{sought-here, sought-else}

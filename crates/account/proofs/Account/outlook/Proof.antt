@@ -11,7 +11,7 @@ use Rattle.filing.specs.Slots.{places}
 use Rattle.account.specs.declared.question.Reached.{Reached}
 use Rattle.account.specs.Places.{used}
 use Rattle.account.specs.First.{panel, inOrderOf}
-use Rattle.account.specs.Reached.{reachedPast}
+use Rattle.account.specs.inside.Reached.{reachedPast}
 use Rattle.account.proofs.Places.{as-many}
 use Rattle.account.proofs.Clauses.{clauses}
 use Rattle.account.proofs.Slices.{usedFrom}
