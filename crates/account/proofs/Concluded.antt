@@ -140,8 +140,6 @@ module _ (a : Account) (t : ℕ) (outcomes : Outcomes) where
 
 -- and of any other, past all its places
 pub record AllPassed (a : Account) (t : ℕ) (outcomes : Outcomes) (event request : ℕ) (found : Slot) (all differ : Bool) : Type 0 where
-  pub many : length (a .progress) ≡ places
-  pub manyHeld : length (a .held) ≡ places
   pub few : a .progressing ≤ places
   pub fewHeld : a .holding ≤ places
   -- what was found of the events in progress, with the clauses so far and the transactions noted,

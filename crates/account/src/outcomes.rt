@@ -15,7 +15,6 @@ ghost use Rattle.rule.specs.Rule.{slot};
 ghost use Rattle.events.specs.declared.State.{State};
 ghost use Rattle.filing.specs.declared.Filed.{Filed};
 ghost use Rattle.filing.specs.Slots.{RuleSlot, places, decisionOf};
-ghost use Rattle.filing.specs.Entries.{isHeld};
 ghost use Rattle.account.specs.Places.{used};
 ghost use Rattle.account.specs.inside.Known.{Knows, Decides, StaysHeld, verdictBy};
 

@@ -428,8 +428,6 @@ returns-2 c =
     let requests-passed : v3 .at ≡ a .holding = omega (arith, v3 .inv .within, requests .loop3-test .left) in
     judges-all a t (v1 .outcomes) (v1 .event) (v3 .request) (v3 .found) (v4 .in-order) (c .differ .result)
     (record {
-      many = rows start .0;
-      manyHeld = rows start .1;
       few = few .0;
       fewHeld = few .1;
       foundEvent = v1 .found;
