@@ -2,12 +2,15 @@
 -- Assumes nothing.
 use Prim.Native.Nat.{ℕ, _+_, _<_}
 use mathlib.Core.Path.{_≡_}
-use mathlib.Core.Bool.{Bool, true, false, cond, not, _&&_, _||_}
+use mathlib.Core.Bool.{Bool, true, cond, not, _&&_, _||_}
 use mathlib.Core.List.{List, [], _∷_, _++_}
 use lib.Dec.{eqb, leb, ltb}
 use lib.ListN.{getD}
 use Rattle.rule.specs.Lists.{some-of, keep}
+use Rattle.rule.specs.Rule.{Message, request, commit, abort}
 use Rattle.rule.specs.Step.{named}
+use Rattle.events.specs.declared.Event.{Event}
+use Rattle.filing.specs.declared.Filed.{Filed}
 use Rattle.filing.specs.declared.Slot.{Slot}
 use Rattle.filing.specs.Slots.{places, blank, isUndecided, slotOf}
 use Rattle.account.specs.declared.Account.{Account}
@@ -61,3 +64,14 @@ askedAnswer j Abort holding = abortAnswer (ltb (j .event) places || ltb (j .requ
 
 unfoldable pub answerBy : Judged → Asked → ℕ → Answer
 answerBy j asked holding = cond (j .in_order) (askedAnswer j asked holding) (Refused 5)
+
+-- what a message asks, and the transaction that it names
+abbrev pub messageAsks : Message Filed Event → Asked
+messageAsks (request t g e) = Request
+messageAsks (commit t g) = Commit
+messageAsks (abort t g) = Abort
+
+abbrev pub messageNames : Message Filed Event → ℕ
+messageNames (request t g e) = t
+messageNames (commit t g) = t
+messageNames (abort t g) = t

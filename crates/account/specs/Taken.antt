@@ -3,9 +3,10 @@
 use Prim.Native.Nat.{ℕ, _<_}
 use mathlib.Core.Path.{_≡_}
 use mathlib.Core.Bool.{true}
-use mathlib.Core.List.{List, [], _∷_, _++_}
+use mathlib.Core.List.{List, [], _∷_}
 use lib.ListN.{getD, set}
-use Rattle.rule.specs.InOrder.{guarded}
+use Rattle.rule.specs.Lists.{every}
+use Rattle.rule.specs.InOrder.{withoutDecision, guarded}
 use Rattle.rule.specs.Step as rule-step
 use Rattle.events.specs.declared.Event.{Event}
 use Rattle.events.specs.declared.State.{State}
@@ -13,12 +14,12 @@ use Rattle.filing.specs.declared.Filed.{Filed}
 use Rattle.filing.specs.declared.Slot.{Slot}
 use Rattle.filing.specs.declared.Entry.{Entry}
 use Rattle.filing.specs.declared.Entries.{Entries}
-use Rattle.filing.specs.Slots.{RuleSlot, slotOf, committedSlot, places, blank}
+use Rattle.filing.specs.Slots.{RuleSlot, committedSlot, places, blank}
 use Rattle.filing.specs.Entries.{RuleEntry, entryOf, entriesOf}
 use Rattle.account.specs.declared.Account.{Account}
 use Rattle.account.specs.declared.Answer.the-variants as Answer′
 use Rattle.account.specs.declared.Stepped.{Stepped}
-use Rattle.account.specs.Places.{RuleAccount, used, listsOf, accountOf}
+use Rattle.account.specs.Places.{RuleAccount, used, accountOf}
 use Rattle.account.specs.First.{panel}
 
 abbrev pub RuleStep : Type 0
@@ -43,17 +44,19 @@ WithoutRequest a t r = (x : RuleAccount) → a ≡ accountOf x → r ≡ account
 abbrev pub markedAt : ℕ → List Slot → List Slot
 markedAt at slots = set slots at (committedSlot (getD slots at blank))
 
--- what follows a commit or an abort of an account that is its lists', behind the call's own entry
+-- what follows a commit or an abort of an account that is its lists', whose requests held have no decision, behind the call's own entry
 abbrev pub Settles : Account → ℕ → Entry → Stepped → Type 0
 Settles a marked first r =
-    (s : State) (events requests : List RuleSlot) (own : RuleEntry)
-    → a .state ≡ s → used (markedAt marked (a .progress)) (a .progressing) ≡ events → a ≡ accountOf (listsOf a) → listsOf a .held ≡ requests → first ≡ entryOf own
-    → guarded panel s [] events ≡ true
-    → r ≡ takenAs (rule-step.after (own ∷ []) (rule-step.settle panel s events requests))
+    (x : RuleAccount) (events : List RuleSlot) (own : RuleEntry)
+    → a ≡ accountOf x → every withoutDecision (x .held) ≡ true
+    → (marked < places → marked < a .progressing) → used (markedAt marked (a .progress)) (a .progressing) ≡ events
+    → first ≡ entryOf own → guarded panel (x .state) [] events ≡ true
+    → r ≡ takenAs (rule-step.after (own ∷ []) (rule-step.settle panel (x .state) events (x .held)))
 
--- the requests held of an account that is its lists', behind what was written
+-- the requests held of such an account, behind what was written
 abbrev pub Drains : Account → Entries → Stepped → Type 0
 Drains a entries r =
-    (s : State) (events requests : List RuleSlot) (written : List RuleEntry)
-    → a ≡ accountOf (listed s events requests) → entries ≡ entriesOf written → guarded panel s [] events ≡ true
-    → r ≡ takenAs (rule-step.after written (rule-step.drain panel s events requests))
+    (x : RuleAccount) (written : List RuleEntry)
+    → a ≡ accountOf x → every withoutDecision (x .held) ≡ true
+    → entries ≡ entriesOf written → guarded panel (x .state) [] (x .progress) ≡ true
+    → r ≡ takenAs (rule-step.after written (rule-step.drain panel (x .state) (x .progress) (x .held)))
