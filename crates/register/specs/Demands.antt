@@ -33,14 +33,14 @@ use Rattle.message.specs.Refusals.{ReaderRefuses, WriterRefuses}
 use Rattle.entry.specs.Bytes.{bytesOfEntries}
 use Rattle.register.specs.declared.Register.{Register}
 use Rattle.register.specs.declared.Sent.{Sent}
-use Rattle.register.specs.Register.{ruleMessage, accountAt}
+use Rattle.register.specs.Register.{ruleMessage}
 use Rattle.register.specs.Call.{Result, refusalOf, consumedOf, writtenOf}
 use Rattle.register.specs.First.{freshRegister, sentOf, outlookIn, callOf, after, exchanges}
 use Rattle.register.specs.Sequence.{Input, Exchange, ByteStrings, EachOnlyEntries, OneMoreCall, Sight, SerialPast}
 use Rattle.register.specs.Sends.{CallIsSend, SentReadsBack}
 use Rattle.register.specs.Filed.{FiledNeverMatters}
 use Rattle.register.specs.Seconds.{SecondsNeverMatter}
-use Rattle.register.specs.Refusals.{accountIn, SendRefuses, CallRefuses, OutlookTells}
+use Rattle.register.specs.Refusals.{accountIn, standingAt, SendRefuses, CallRefuses, OutlookTells}
 use Rattle.register.specs.Own.{EachOwnEntry, Brings}
 use Rattle.register.specs.Unchanged.{SendLeaves, Refusal, Taking}
 use Rattle.register.specs.Run.{EmptyRun, BoundNeverMatters, EachRunKept, BufferNeverShows}
@@ -100,14 +100,14 @@ pub record Demand1 : Type 0 where
 abbrev pub AsTheRule : Type 0
 AsTheRule =
     (r : Register) (bytes buffer : List ℕ) (m : Message) (consumed : ℕ) → readOf bytes ≡ Reading′.Message m consumed → 315 ≤ length buffer
-    → inOrderOf (accountAt r (accountIn bytes)) ≡ true
-    → Ruled r buffer (accountIn bytes) consumed (call panel (listsOf (accountAt r (accountIn bytes))) (ruleMessage m)) (callOf r bytes buffer)
+    → inOrderOf (standingAt r (accountIn bytes)) ≡ true
+    → Ruled r buffer (accountIn bytes) consumed (call panel (listsOf (standingAt r (accountIn bytes))) (ruleMessage m)) (callOf r bytes buffer)
 
 -- and of a message as a value
 abbrev pub SentAsTheRule : Type 0
 SentAsTheRule =
-    (r : Register) (m : Message) → headingOf m .account ≤ 15 → inOrderOf (accountAt r (headingOf m .account)) ≡ true
-    → let called = call panel (listsOf (accountAt r (headingOf m .account))) (ruleMessage m) in
+    (r : Register) (m : Message) → headingOf m .account ≤ 15 → inOrderOf (standingAt r (headingOf m .account)) ≡ true
+    → let called = call panel (listsOf (standingAt r (headingOf m .account))) (ruleMessage m) in
     sentOf r m ≡ sentAsRuled r (headingOf m .account) (called .account) (called .answer)
 
 pub record Demand2 : Type 0 where
@@ -146,7 +146,7 @@ pub record Demand3 : Type 0 where
   pub sight : (i : ℕ) (xs : List Exchange) (x : Exchange) → Sight i xs x
   pub whole : (inputs : List Input) → ByteStrings inputs → EachOnlyEntries (exchanges freshRegister inputs)
   -- every account is in order, so that 5 is given neither by a call nor by the outcome question
-  pub inOrder : (inputs : List Input) (i : ℕ) → i < 16 → inOrderOf (accountAt (after freshRegister inputs) i) ≡ true
+  pub inOrder : (inputs : List Input) (i : ℕ) → i < 16 → inOrderOf (standingAt (after freshRegister inputs) i) ≡ true
   pub never-five : (inputs : List Input) (bytes buffer : List ℕ) → refusalOf (callOf (after freshRegister inputs) bytes buffer .reply) ≡ some 5 → ⊥
   pub never-asked-five : (inputs : List Input) (i n : ℕ) → shownBy (outlookIn (after freshRegister inputs) i n) .refusal ≡ some 5 → ⊥
 
