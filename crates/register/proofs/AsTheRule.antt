@@ -19,12 +19,13 @@ use Rattle.account.specs.Steps.{steppedBy, stepBy}
 use Rattle.entry.proofs.CallFits.{listed}
 use Rattle.message.specs.declared.Message.{Message}
 use Rattle.message.specs.declared.Reading.the-variants as Reading′
+use Rattle.message.specs.Bytes.{headingOf}
 use Rattle.message.specs.Answers.{readOf}
 use Rattle.register.specs.declared.Register.{Register}
 use Rattle.register.specs.Register.{accountAt, ruleMessage, sentIn, sentBy}
 use Rattle.register.specs.Call.{wroteOf, afterMessage, calledBy}
 use Rattle.register.specs.Refusals.{accountIn}
-use Rattle.register.specs.Demands.{RuledBy, Ruled}
+use Rattle.register.specs.Demands.{RuledBy, Ruled, sentAsRuled}
 use Rattle.register.proofs.ReadAs.{read-as, account-read}
 
 -- the rule's answer, in places and from them in bytes
@@ -44,3 +45,19 @@ module _ (R : Rule State Event ℕ) where
       let called = rule-call.call R (listsOf (accountAt r i)) (ruleMessage m) in
       rw (read, account-read bytes m consumed read, le-ltb (length buffer) 315 room, le-ltb 15 i (read-as bytes m consumed read .account), order)
       (answer-ruled r buffer i consumed (accountAt r i) (called .account) (called .answer))
+
+  pub sent-as-the-rule : (r : Register) (m : Message) → headingOf m .account ≤ 15 → inOrderBy R (accountAt r (headingOf m .account)) ≡ true
+      → let called = rule-call.call R (listsOf (accountAt r (headingOf m .account))) (ruleMessage m) in
+      sentBy R r m ≡ sentAsRuled r (headingOf m .account) (called .account) (called .answer)
+  unfolding sentBy stepBy
+  sent-as-the-rule r m known order =
+      let i = headingOf m .account in
+      let called = rule-call.call R (listsOf (accountAt r i)) (ruleMessage m) in
+      rw (le-ltb 15 i known, order) (by (called .answer))
+    where
+      by : (answer : rule-call.Answer Filed Event ℕ)
+          → let i = headingOf m .account in
+          let next = rule-call.call R (listsOf (accountAt r i)) (ruleMessage m) .account in
+          sentIn r i (steppedBy (accountAt r i) next answer) ≡ sentAsRuled r i next answer
+      by (rule-call.refused n) = refl
+      by (rule-call.taken xs) = refl

@@ -27,7 +27,7 @@ use Rattle.register.specs.declared.Reply.the-variants.{Taken}
 use Rattle.register.specs.declared.Sent.{Sent}
 use Rattle.register.specs.Register.{withAccount, sentBy}
 use Rattle.register.specs.Call.{Result, refusedWith, wroteOf, afterMessage, afterReading, calledBy}
-use Rattle.register.proofs.Standing.{Stands, Refusable, Told, told-read}
+use Rattle.register.proofs.Standing.{Stands, Refusable, ReadingTells, reading-tells}
 use Rattle.register.proofs.Sending as send
 use Rattle.register.proofs.Sending.{place, taking, Free, Sending, sending}
 
@@ -50,7 +50,7 @@ module _ (R : Rule State Event ℕ) (r : Register) (bytes buffer : List ℕ) whe
 
   pub calling : Calling (calledBy R r bytes buffer)
   unfolding calledBy afterMessage
-  calling = by-reading (readOf bytes) refl (told-read bytes)
+  calling = by-reading (readOf bytes) refl (reading-tells bytes)
     where
       by-sent : (m : Message) (consumed : ℕ) → readOf bytes ≡ Reading′.Message m consumed → Stands bytes → longestCall ≤ length buffer
           → {sent : Sent} → Sending R r m sent → Calling (wroteOf r buffer (place R r m) consumed sent)
@@ -62,6 +62,6 @@ module _ (R : Rule State Event ℕ) (r : Register) (bytes buffer : List ℕ) whe
       by-room m consumed q stands true e = refused 4 (inr (omega arith, stands))
       by-room m consumed q stands false e = by-sent m consumed q stands (ltb-false (length buffer) longestCall e) (sending R r m)
 
-      by-reading : (x : Reading) → readOf bytes ≡ x → Told bytes x → Calling (afterReading R r buffer x)
+      by-reading : (x : Reading) → readOf bytes ≡ x → ReadingTells bytes x → Calling (afterReading R r buffer x)
       by-reading (Reading′.Refused n) q h = refused n h
       by-reading (Reading′.Message m consumed) q h = by-room m consumed q (h .1) (ltb (length buffer) longestCall) refl

@@ -9,15 +9,15 @@ use Rattle.message.proofs.Refusals.{reader-refuses, writer-refuses}
 use Rattle.message.proofs.Inverse.{reads-written, writes-read}
 use Rattle.register.specs.Register.{freshBy}
 use Rattle.register.specs.Demands.{Demand1, Demand2, Demand3, RunHolds}
-use Rattle.register.proofs.Suits.{panel-suits}
+use Rattle.register.proofs.Suits.{first-suits}
 use Rattle.register.proofs.Unchanged.{send-leaves, refusal, call-takes}
 use Rattle.register.proofs.Refusals.{send-refuses, call-refuses, outlook-tells}
-use Rattle.register.proofs.AsTheRule.{as-the-rule}
+use Rattle.register.proofs.AsTheRule.{as-the-rule, sent-as-the-rule}
 use Rattle.register.proofs.Sends.{call-is-send, sent-reads-back}
 use Rattle.register.proofs.Own.{each-own-entry}
 use Rattle.register.proofs.Filed.{filed-never-matters}
 use Rattle.register.proofs.Seconds.{seconds-never-matter}
-use Rattle.register.proofs.Told.{serial-past, only-entries}
+use Rattle.register.proofs.Demand3.{serial-past, only-entries}
 use Rattle.register.proofs.Sequences.{each-call, each-sight}
 use Rattle.register.proofs.InOrder.{always-in-order, never-five, never-asked-five}
 use Rattle.register.proofs.RunCalls.{run-is-its-calls, run-demand3}
@@ -34,8 +34,8 @@ demand1 =
       sends = send-refuses panel;
       exactly = call-refuses panel;
       leaves = send-leaves panel;
-      refused = refusal panel panel-suits;
-      taken = call-takes panel panel-suits;
+      refused = refusal panel first-suits;
+      taken = call-takes panel first-suits;
       asked = outlook-tells panel;
       read = reader-refuses;
       written = writer-refuses;
@@ -45,8 +45,9 @@ pub demand2 : Demand2
 demand2 =
     record {
       decided = as-the-rule panel;
+      decided-sent = sent-as-the-rule panel;
       sent = call-is-send panel;
-      back = sent-reads-back panel panel-suits;
+      back = sent-reads-back panel first-suits;
       brought = λ t i g. record { request = λ e. refl; commit = refl; abort = refl };
       own = each-own-entry panel;
       weighed = exact panel;
@@ -57,30 +58,30 @@ demand2 =
       outcomes = outcomes-of-the-table;
       written-read = reads-written;
       read-written = writes-read;
-      filed = filed-never-matters panel panel-suits;
-      seconds = seconds-never-matter panel panel-suits;
+      filed = filed-never-matters panel first-suits;
+      seconds = seconds-never-matter panel first-suits;
     }
 
 pub demand3 : Demand3
 demand3 =
     record {
-      history = serial-past panel panel-suits;
+      history = serial-past panel first-suits;
       calls = each-call panel;
       sight = each-sight;
-      whole = only-entries panel panel-suits;
-      inOrder = λ inputs i l. always-in-order panel panel-suits inputs i;
-      never-five = never-five panel panel-suits;
-      never-asked-five = never-asked-five panel panel-suits;
+      whole = only-entries panel first-suits;
+      inOrder = λ inputs i l. always-in-order panel first-suits inputs i;
+      never-five = never-five panel first-suits;
+      never-asked-five = never-asked-five panel first-suits;
     }
 
 pub run-holds : RunHolds
 run-holds =
     record {
-      calls = run-is-its-calls panel panel-suits;
-      demand3 = run-demand3 panel panel-suits;
-      empty = empty-run panel panel-suits;
-      bound = bound-never-matters panel panel-suits;
-      kept = each-run-kept panel panel-suits;
-      buffer = buffer-never-shows panel panel-suits;
-      seconds = run-seconds-never-matter panel panel-suits;
+      calls = run-is-its-calls panel first-suits;
+      demand3 = run-demand3 panel first-suits;
+      empty = empty-run panel first-suits;
+      bound = bound-never-matters panel first-suits;
+      kept = each-run-kept panel first-suits;
+      buffer = buffer-never-shows panel first-suits;
+      seconds = run-seconds-never-matter panel first-suits;
     }

@@ -11,7 +11,7 @@ pub mod Moved
 pub mod InOrder
 pub mod Sequences
 pub mod ReadBack
-pub mod Told
+pub mod Demand3
 pub mod Sends
 pub mod OtherSecond
 pub mod Filed

@@ -24,7 +24,7 @@ use Rattle.register.specs.Run.{lengthAt, passedOf}
 use Rattle.register.proofs.Whole.{some-bytes}
 use Rattle.register.proofs.Passed.{passed-stops, passed-skips}
 use Rattle.register.proofs.Suits.{Suits}
-use Rattle.register.proofs.Standing.{Stands, Refusable, told-read}
+use Rattle.register.proofs.Standing.{Stands, Refusable, reading-tells}
 use Rattle.register.proofs.Sending.{taking, taken-bytes}
 use Rattle.register.proofs.Calling.{Calling, refused, taken, calling}
 
@@ -45,7 +45,7 @@ pub record Moved (bytes buffer left : List ℕ) (passed : Passed) : Type 0 where
 module _ (R : Rule State Event ℕ) (k : Suits R) (r : Register) (bytes buffer : List ℕ) where
   tells : {x : Result} → Calling R r bytes buffer x → Tells bytes (x .reply)
   tells (refused n why) = why
-  tells (taken m consumed t) = rw (t .read) at (told-read bytes)
+  tells (taken m consumed t) = rw (t .read) at (reading-tells bytes)
 
   moves : {x : Result} → Calling R r bytes buffer x → Moved bytes buffer (x .buffer) (passedOf (x .reply) (lengthAt bytes))
   moves (refused n (inl which)) =
@@ -58,7 +58,7 @@ module _ (R : Rule State Event ℕ) (k : Suits R) (r : Register) (bytes buffer :
       let i = headingOf m .account in
       let written = bytesOfEntries i (map entryOf (taking R r m .entries)) in
       let fits : length written ≤ longestCall = taken-bytes R r m k (t .free) i in
-      let read : (consumed ≡ lengthAt bytes) × Stands bytes = rw (t .read) at (told-read bytes) in
+      let read : (consumed ≡ lengthAt bytes) × Stands bytes = rw (t .read) at (reading-tells bytes) in
       record {
         size = simp (length-append, length-drop) (omega (arith, fits, t .room));
         room = omega (arith, fits, t .room);

@@ -30,7 +30,7 @@ use Rattle.register.proofs.Standing.{Stands}
 use Rattle.register.proofs.Moved.{Tells, Moved, call-moves, call-tells}
 use Rattle.register.proofs.Whole.{some-bytes}
 use Rattle.register.proofs.Underway.{run-ended, run-more}
-use Rattle.register.proofs.Told.{serial-past}
+use Rattle.register.proofs.Demand3.{serial-past}
 
 -- the four numbers one by one
 module _ (buffer : List ℕ) (seen : List Exchange) (passed : ℕ) (run : Run) where

@@ -30,7 +30,7 @@ use Rattle.register.specs.Sends.{IsSent, CallIsSend, SentReadsBack}
 use Rattle.register.proofs.Suits.{Suits}
 use Rattle.register.proofs.ReadBack.{value-back}
 use Rattle.register.proofs.Sending.{taking, Sending, refused, taken, sending}
-use Rattle.register.proofs.Told.{reached-sees, taken-back}
+use Rattle.register.proofs.Demand3.{reached-sees, taken-back}
 
 -- the entries of a call in their places, and as the rule has them
 pub sent-entries : (xs : List RuleEntry) → map ruleEntry (listOf (entriesOf xs)) ≡ xs

@@ -30,13 +30,13 @@ abbrev pub Refusable : (bytes : List ℕ) (n : ℕ) → Type 0
 Refusable bytes n = ((n ≡ 1) ⊎ (n ≡ 2)) ⊎ ((3 ≤ n) × Stands bytes)
 
 -- and what was read
-abbrev pub Told : (bytes : List ℕ) → Reading → Type 0
-Told bytes (Reading′.Refused n) = Refusable bytes n
-Told bytes (Reading′.Message m consumed) = (consumed ≡ lengthAt bytes) × Stands bytes
+abbrev pub ReadingTells : (bytes : List ℕ) → Reading → Type 0
+ReadingTells bytes (Reading′.Refused n) = Refusable bytes n
+ReadingTells bytes (Reading′.Message m consumed) = (consumed ≡ lengthAt bytes) × Stands bytes
 
-told-kind : (bytes : List ℕ) (found : Option KindRow) → rowOfKind messages (numberAt bytes 0 1) ≡ found → Told bytes (readKind found bytes)
-told-kind bytes none e = inl (inr refl)
-told-kind bytes (some r) e = short (ltb (length bytes) (r .whole)) refl
+kind-tells : (bytes : List ℕ) (found : Option KindRow) → rowOfKind messages (numberAt bytes 0 1) ≡ found → ReadingTells bytes (readKind found bytes)
+kind-tells bytes none e = inl (inr refl)
+kind-tells bytes (some r) e = short (ltb (length bytes) (r .whole)) refl
   where
     same : lengthAt bytes ≡ r .whole
     same = ap wholeOf e
@@ -44,21 +44,21 @@ told-kind bytes (some r) e = short (ltb (length bytes) (r .whole)) refl
     numbers : List ℕ
     numbers = numbersAt (widthsOf (some r)) bytes 0
 
-    account : Stands bytes → (b : Bool) → Told bytes (cond b (Reading′.Refused 3) (Reading′.Message (messageOf numbers) (r .whole)))
+    account : Stands bytes → (b : Bool) → ReadingTells bytes (cond b (Reading′.Refused 3) (Reading′.Message (messageOf numbers) (r .whole)))
     account w true = inr (omega arith, w)
     account w false = (sym same, w)
 
-    short : (b : Bool) → ltb (length bytes) (r .whole) ≡ b → Told bytes (cond b (Reading′.Refused 1) (readNumbers (r .whole) numbers))
+    short : (b : Bool) → ltb (length bytes) (r .whole) ≡ b → ReadingTells bytes (cond b (Reading′.Refused 1) (readNumbers (r .whole) numbers))
     short true q = inl (inl refl)
     short false q =
         account
         (record { whole = rw same (row-length bytes r e); all-there = rw same (ltb-false (length bytes) (r .whole) q) })
         (ltb lastAccount (getD numbers 2 0))
 
-pub told-read : (bytes : List ℕ) → Told bytes (readOf bytes)
+pub reading-tells : (bytes : List ℕ) → ReadingTells bytes (readOf bytes)
 unfolding readOf
-told-read bytes = go (eqb (length bytes) 0)
+reading-tells bytes = go (eqb (length bytes) 0)
   where
-    go : (b : Bool) → Told bytes (cond b (Reading′.Refused 1) (readKind (rowOfKind messages (numberAt bytes 0 1)) bytes))
+    go : (b : Bool) → ReadingTells bytes (cond b (Reading′.Refused 1) (readKind (rowOfKind messages (numberAt bytes 0 1)) bytes))
     go true = inl (inl refl)
-    go false = told-kind bytes (rowOfKind messages (numberAt bytes 0 1)) refl
+    go false = kind-tells bytes (rowOfKind messages (numberAt bytes 0 1)) refl

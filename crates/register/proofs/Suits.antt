@@ -45,8 +45,8 @@ balance-kept e s h = go (guardOf e s) refl
     go true q = table-kept e s q h
     go false q = h
 
-pub panel-suits : Suits panel
-panel-suits =
+pub first-suits : Suits panel
+first-suits =
     record {
       ordered = sound places places;
       few = lit≤ tt;

@@ -38,12 +38,11 @@ use Rattle.register.specs.declared.runs.Ran.{Ran}
 use Rattle.register.specs.declared.runs.Passed.{Passed}
 use Rattle.register.specs.Register.{accountAt, withAccount, ruleMessage, sentIn, sentAs, sentBy}
 use Rattle.register.specs.Call.{Result, refusedWith, wroteOf, afterMessage, afterReading, calledBy}
-use Rattle.register.specs.Numbers.{readingNumber}
+use Rattle.register.specs.Helpers.{readingNumber, roomed, filedOf, Fitting}
 use Rattle.register.specs.Run.{lengthAt, passedOf}
-use Rattle.register.specs.Filing.{roomed, filedOf, Fitting}
 use Rattle.register.proofs.Suits.{Suits}
 use Rattle.register.proofs.ReadAs.{read-as, account-read}
-use Rattle.register.proofs.Standing.{told-read}
+use Rattle.register.proofs.Standing.{reading-tells}
 use Rattle.register.proofs.Passed.{passed-skips}
 use Rattle.register.proofs.Sending.{Sending, refused, taken, sending, step-bytes}
 use Rattle.register.proofs.Underway.{Turn}
@@ -161,7 +160,7 @@ module _ (R : Rule State Event ℕ) (k : Suits R) (bytes : List ℕ) (r : Regist
       named-low = omega (arith, account-read rest m consumed reads, read-as rest m consumed reads .account)
 
       consumed-is : consumed ≡ whole
-      consumed-is = (rw reads at (told-read rest)) .0 ∙ sym whole-is
+      consumed-is = (rw reads at (reading-tells rest)) .0 ∙ sym whole-is
 
       module _ (stepped : Stepped) (s : stepped ≡ stepBy R (accountAt r (headingOf m .account)) (ruleMessage m)) where
         call-is : calledBy R r rest free ≡ wroteOf r free (headingOf m .account) whole (sentIn r (headingOf m .account) stepped)

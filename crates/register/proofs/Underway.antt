@@ -20,7 +20,7 @@ use Rattle.register.specs.Register.{freshBy}
 use Rattle.register.specs.Call.{Result, calledBy}
 use Rattle.register.specs.Run.{Run, nothing, ended, lengthAt, passedOf, one, added, joined, first, runFrom, runBy}
 use Rattle.register.proofs.Suits.{Suits}
-use Rattle.register.specs.Filing.{Countable}
+use Rattle.register.specs.Helpers.{Countable}
 use Rattle.register.proofs.Moved.{Moved, call-moves}
 
 module _ (R : Rule State Event ℕ) (k : Suits R) where

@@ -32,8 +32,7 @@ use Rattle.register.specs.declared.Reply.{Reply}
 use Rattle.register.specs.declared.Reply.the-variants.{Refused, Taken}
 use Rattle.register.specs.Register.{accountAt, withAccount, ruleMessage, notSent, sentIn, sentBy}
 use Rattle.register.specs.Call.{refusedWith, wroteOf, afterMessage, calledBy}
-use Rattle.register.specs.Numbers.{readingNumber, stepNumber}
-use Rattle.register.specs.Filing.{filedOf, Fitting}
+use Rattle.register.specs.Helpers.{readingNumber, stepNumber, filedOf, Fitting}
 use Rattle.register.proofs.Suits.{Suits}
 use Rattle.register.proofs.Sending.{taking, Sending, refused, taken, sending, taken-bytes}
 

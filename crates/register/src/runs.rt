@@ -11,7 +11,7 @@ ghost use mathlib.Core.Path.{_≡_};
 ghost use Rattle.register.specs.declared.Reply.the-variants.{Refused};
 ghost use Rattle.register.specs.First.{runOf};
 ghost use Rattle.register.specs.Run.{replyNumber, passedOf, one, added};
-ghost use Rattle.register.specs.Filing.{roomed, filedOf, Fitting, Countable};
+ghost use Rattle.register.specs.Helpers.{roomed, filedOf, Fitting, Countable};
 
 // What a run comes to: messages met, messages refused, bytes of messages passed, bytes of entries written.
 pub struct Ran {

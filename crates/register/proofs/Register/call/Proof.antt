@@ -1,7 +1,7 @@
 -- Each way out is one law of `proofs/Writes.antt`.
 -- Assumes nothing.
 use borrow.Author.Needs.{needs}
-use Rattle.register.proofs.Suits.{panel-suits}
+use Rattle.register.proofs.Suits.{first-suits}
 use Rattle.register.proofs.Writes.{entries-fit, reading-refused, room-refused, sent-refused, sent-fits, sent-taken}
 use Rattle.register.proofs.Register.call.Statement.{statement}
 use Rattle.register.proofs.Register.call.Tie as tie
@@ -120,7 +120,7 @@ returns-4 c =
     let writing = at-writing .write-entries in
     let fits =
     sent-fits _ (a .self) (a .bytes .now) (a .buffer .now) (read .result) (given .0 .0) (given .0 .1 .0) (read .ensures) (given .1) (sent .result) (roomy .if1 .left) (sent .ensures)
-    panel-suits (taken .enum-told2 .given .1) in
+    first-suits (taken .enum-told2 .given .1) in
     absurd (entries-fit (sent .result .entries) (number .result) (a .buffer .now) (rw (number .ensures) fits) (writing .result) (told .enum-told4 .given .0 .0) (writing .ensures .0) (told .enum-told4 .given .1))
 
 same-length-2 : tie.Need-same-length-2
@@ -143,7 +143,7 @@ returns-5 c =
     let number = numbered .account-of in
     let writing = at-writing .write-entries in
     sent-taken _ (a .self) (a .bytes .now) (a .buffer .now) (read .result) (given .0 .0) (given .0 .1 .0) (read .ensures) (given .1) (sent .result) (roomy .if1 .left) (sent .ensures)
-    panel-suits (number .result) (writing .result) (told .writing .given .0 .0) (writing .last .1 .1 .0)
+    first-suits (number .result) (writing .result) (told .writing .given .0 .0) (writing .last .1 .1 .0)
     (taken .enum-told2 .given .1) (number .ensures) (writing .ensures .0) (told .writing .given .1) (writing .ensures .1)
 
 pub call-spec : {M : Type 1} → statement M

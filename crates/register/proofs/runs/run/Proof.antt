@@ -16,14 +16,14 @@ use Rattle.message.specs.declared.Message.the-variants.{Request, Commit, Abort}
 use Rattle.message.specs.declared.Reading.the-variants as Reading′
 use Rattle.register.specs.declared.Register.{Register}
 use Rattle.register.specs.Run.{Run}
-use Rattle.register.proofs.Suits.{panel-suits}
+use Rattle.register.proofs.Suits.{first-suits}
 use Rattle.register.proofs.Underway.{Underway, starts, ends, Turn, countable, stops-there, goes-on, less-left}
 use Rattle.register.proofs.Turned.{Looked, turn-refused, named-low, turn-fits, turn-message, turn-on}
 use Rattle.register.proofs.runs.run.Statement.{statement}
 use Rattle.register.proofs.runs.run.Tie as tie
 
 abbrev Inv-loop : tie.InvT-loop
-Inv-loop messages entries₀ accounts₀ ran₀ entries accounts ran = Underway _ panel-suits messages entries₀ (record { accounts = accounts }) ran entries
+Inv-loop messages entries₀ accounts₀ ran₀ entries accounts ran = Underway _ first-suits messages entries₀ (record { accounts = accounts }) ran entries
 
 abbrev μ-loop : tie.MeasureT-loop
 μ-loop messages entries₀ accounts₀ ran₀ entries accounts ran = length messages - ran .consumed
@@ -34,7 +34,7 @@ fresh-requires c κs = search needs
 loop-holds : tie.Need-loop-holds Inv-loop μ-loop
 loop-holds c =
     let a = c .before .before .before .before .args in
-    rw (c .before .fresh .ensures) (starts _ panel-suits (a .messages .now) (a .entries .now))
+    rw (c .before .fresh .ensures) (starts _ first-suits (a .messages .now) (a .entries .now))
 
 sub-rest : tie.Need-sub-rest Inv-loop μ-loop
 sub-rest c = search needs
@@ -86,7 +86,7 @@ more c =
 
 -- what was looked at
 looked : (c : tie.After-with-room Inv-loop μ-loop) → let v = at-loop c in
-    Looked _ panel-suits (began v .args .messages .now) (register v) (v .loop .ran) (v .loop .entries) (c .before .before .before .number1 .result) (c .before .before .whole-length .result) (c .before .read-message .result) (c .with-room .result)
+    Looked _ first-suits (began v .args .messages .now) (register v) (v .loop .ran) (v .loop .entries) (c .before .before .before .number1 .result) (c .before .before .whole-length .result) (c .before .read-message .result) (c .with-room .result)
 looked c =
     record {
       room = at-loop c .loop .inv .room;
@@ -107,13 +107,13 @@ passed-over-requires c κs = search needs
 
 -- A refusal of the reader or of the room: the turn, once it has been counted as passed.
 refused-turn : (c : tie.After-passed-over Inv-loop μ-loop) → let v = at-loop (c .before .before .before .before) in
-    Turn _ panel-suits (began v .args .messages .now) (register v) (v .loop .ran) (v .loop .entries) (register v) (c .passed-over .result) (v .loop .entries)
+    Turn _ first-suits (began v .args .messages .now) (register v) (v .loop .ran) (v .loop .entries) (register v) (c .passed-over .result) (v .loop .entries)
 refused-turn c =
     let numbered = c .before in
     let told = numbered .before in
     let at-room = told .before .before in
     let v = at-loop at-room in
-    turn-refused _ panel-suits (began v .args .messages .now) (register v) (v .loop .ran) (v .loop .entries) _ _ _ _ (looked at-room)
+    turn-refused _ first-suits (began v .args .messages .now) (register v) (v .loop .ran) (v .loop .entries) _ _ _ _ (looked at-room)
     (told .enum-told .given .0 .0) (numbered .refusal-of-reading .result) (c .passed-over .result) (told .enum-told .given .1) (numbered .refusal-of-reading .ensures) (c .passed-over .ensures)
 
 with-message-requires : tie.Need-with-message-requires Inv-loop μ-loop
@@ -121,7 +121,7 @@ with-message-requires c κs =
     let at-room = c .before .before .before .before in
     let v = at-loop at-room in
     let start = began v in
-    countable _ panel-suits (start .args .messages .now) (start .args .entries .now) (register v) (v .loop .ran) (v .loop .entries) (register v) (c .passed-over .result) (v .loop .entries)
+    countable _ first-suits (start .args .messages .now) (start .args .entries .now) (register v) (v .loop .ran) (v .loop .entries) (register v) (c .passed-over .result) (v .loop .entries)
     (v .loop .inv) (refused-turn c) (more at-room) (start .good .0 .0) (start .good .1 .0 .0)
 
 same-length : tie.Need-same-length Inv-loop μ-loop
@@ -137,7 +137,7 @@ returns c =
     let v = at-loop at-room in
     let start = began v in
     let whole =
-    stops-there _ panel-suits (start .args .messages .now) (start .args .entries .now) (register v) (v .loop .ran) (v .loop .entries) (register v) (passed .passed-over .result) (v .loop .entries)
+    stops-there _ first-suits (start .args .messages .now) (start .args .entries .now) (register v) (v .loop .ran) (v .loop .entries) (register v) (passed .passed-over .result) (v .loop .entries)
     (v .loop .inv) (refused-turn passed) (more at-room) (c .if2 .taken) in
     (counted .with-message .ensures ∙ sym (ap (λ (x : Run). x .counts) whole), sym (ap (λ (x : Run). x .entries) whole))
 
@@ -149,7 +149,7 @@ loop-less c =
     let v = at-loop at-room in
     let start = began v in
     rw (counted .with-message .ensures)
-    (less-left _ panel-suits (start .args .messages .now) (start .args .entries .now) (register v) (v .loop .ran) (v .loop .entries) (register v) (passed .passed-over .result) (v .loop .entries)
+    (less-left _ first-suits (start .args .messages .now) (start .args .entries .now) (register v) (v .loop .ran) (v .loop .entries) (register v) (passed .passed-over .result) (v .loop .entries)
     (v .loop .inv) (refused-turn passed) (more at-room) (c .if2 .left))
 
 loop-again : tie.Need-loop-again Inv-loop μ-loop
@@ -160,7 +160,7 @@ loop-again c =
     let v = at-loop at-room in
     let start = began v in
     rw (counted .with-message .ensures)
-    (goes-on _ panel-suits (start .args .messages .now) (start .args .entries .now) (register v) (v .loop .ran) (v .loop .entries) (register v) (passed .passed-over .result) (v .loop .entries)
+    (goes-on _ first-suits (start .args .messages .now) (start .args .entries .now) (register v) (v .loop .ran) (v .loop .entries) (register v) (passed .passed-over .result) (v .loop .entries)
     (v .loop .inv) (refused-turn passed) (more at-room) (c .if2 .left))
 
 -- A request.
@@ -186,7 +186,7 @@ requested-low : (c : tie.After-message Inv-loop μ-loop) → c .message .given .
 requested-low c =
     let at-room = requested-room c in
     let v = at-loop at-room in
-    named-low _ panel-suits (began v .args .messages .now) (register v) (v .loop .ran) (v .loop .entries) _ _ _ _ (looked at-room) (requested-message c) _ (requested-read c)
+    named-low _ first-suits (began v .args .messages .now) (register v) (v .loop .ran) (v .loop .entries) _ _ _ _ (looked at-room) (requested-message c) _ (requested-read c)
 
 mul-account : tie.Need-mul-account Inv-loop μ-loop
 mul-account c = record { fits = omega (arith, requested-low (c .before .before .before)) }
@@ -216,7 +216,7 @@ file-requires c κs =
     let message = stepped .before .before .before .before .before in
     let at-room = requested-room message in
     let v = at-loop at-room in
-    turn-fits _ panel-suits (began v .args .messages .now) (register v) (v .loop .ran) (v .loop .entries) _ _ _ _ (looked at-room) (requested-message message) _ (requested-read message)
+    turn-fits _ first-suits (began v .args .messages .now) (register v) (v .loop .ran) (v .loop .entries) _ _ _ _ (looked at-room) (requested-message message) _ (requested-read message)
     (stepped .request .result) (stepped .request .ensures)
 
 passed-by-requires : tie.Need-passed-by-requires Inv-loop μ-loop
@@ -244,7 +244,7 @@ array-set-from-accounts : tie.Need-array-set-from-accounts Inv-loop μ-loop
 array-set-from-accounts c = requested-low (requested-named (c .before .before))
 
 requested-turn : (c : tie.Joined3 Inv-loop μ-loop) → let v = at-loop (requested-room (requested-named (c .before))) in
-    Turn _ panel-suits (began v .args .messages .now) (register v) (v .loop .ran) (v .loop .entries) (record { accounts = c .if3 .accounts }) (c .before .before .passed-by .result) (requested-left (c .before))
+    Turn _ first-suits (began v .args .messages .now) (register v) (v .loop .ran) (v .loop .entries) (record { accounts = c .if3 .accounts }) (c .before .before .passed-by .result) (requested-left (c .before))
 requested-turn c =
     let passed = c .before .before .passed-by in
     let filed = requested-filed (c .before) .file in
@@ -252,7 +252,7 @@ requested-turn c =
     let message = requested-named (c .before) in
     let at-room = requested-room message in
     let v = at-loop at-room in
-    turn-message _ panel-suits (began v .args .messages .now) (register v) (v .loop .ran) (v .loop .entries) _ _ _ _ (looked at-room) (requested-message message) _ (requested-read message)
+    turn-message _ first-suits (began v .args .messages .now) (register v) (v .loop .ran) (v .loop .entries) _ _ _ _ (looked at-room) (requested-message message) _ (requested-read message)
     (stepped .result) (stepped .ensures) (filed .result) (passed .result) (filed .last .1 .1 .1 .1 .0) (record { accounts = c .if3 .accounts })
     (filed .ensures .0) (filed .ensures .1) (passed .ensures)
     (⊎-elim (λ z. inl (z .0 .taken, ap as-register (z .2))) (λ z. inr (z .0 .left, ap as-register (z .1))) (c .if3 .came))
@@ -265,7 +265,7 @@ requested-on c =
     let message = requested-named (c .before) in
     let at-room = requested-room message in
     let v = at-loop at-room in
-    turn-on _ panel-suits (began v .args .messages .now) (register v) (v .loop .ran) (v .loop .entries) _ _ _ _ (looked at-room) (requested-message message) _ (requested-read message)
+    turn-on _ first-suits (began v .args .messages .now) (register v) (v .loop .ran) (v .loop .entries) _ _ _ _ (looked at-room) (requested-message message) _ (requested-read message)
     (stepped .result) (stepped .ensures) (filed .result) (passed .result) (filed .ensures .0) (passed .ensures)
 
 with-message-requires-2 : tie.Need-with-message-requires-2 Inv-loop μ-loop
@@ -273,7 +273,7 @@ with-message-requires-2 c κs =
     let at-room = requested-room (requested-named (c .before)) in
     let v = at-loop at-room in
     let start = began v in
-    (countable _ panel-suits (start .args .messages .now) (start .args .entries .now) (register v) (v .loop .ran) (v .loop .entries) (record { accounts = c .if3 .accounts })
+    (countable _ first-suits (start .args .messages .now) (start .args .entries .now) (register v) (v .loop .ran) (v .loop .entries) (record { accounts = c .if3 .accounts })
     (c .before .before .passed-by .result) (requested-left (c .before)) (v .loop .inv) (requested-turn c) (more at-room) (start .good .0 .0) (start .good .1 .0 .0))
 
 loop-less-2 : tie.Need-loop-less-2 Inv-loop μ-loop
@@ -283,7 +283,7 @@ loop-less-2 c =
     let v = at-loop at-room in
     let start = began v in
     rw (c .with-message2 .ensures)
-    (less-left _ panel-suits (start .args .messages .now) (start .args .entries .now) (register v) (v .loop .ran) (v .loop .entries) (record { accounts = joined .if3 .accounts })
+    (less-left _ first-suits (start .args .messages .now) (start .args .entries .now) (register v) (v .loop .ran) (v .loop .entries) (record { accounts = joined .if3 .accounts })
     (joined .before .before .passed-by .result) (requested-left (joined .before)) (v .loop .inv) (requested-turn joined) (more at-room) (requested-on joined))
 
 loop-again-2 : tie.Need-loop-again-2 Inv-loop μ-loop
@@ -293,7 +293,7 @@ loop-again-2 c =
     let v = at-loop at-room in
     let start = began v in
     rw (c .with-message2 .ensures)
-    (goes-on _ panel-suits (start .args .messages .now) (start .args .entries .now) (register v) (v .loop .ran) (v .loop .entries) (record { accounts = joined .if3 .accounts })
+    (goes-on _ first-suits (start .args .messages .now) (start .args .entries .now) (register v) (v .loop .ran) (v .loop .entries) (record { accounts = joined .if3 .accounts })
     (joined .before .before .passed-by .result) (requested-left (joined .before)) (v .loop .inv) (requested-turn joined) (more at-room) (requested-on joined))
 
 -- A commit.
@@ -319,7 +319,7 @@ committed-low : (c : tie.After-message2 Inv-loop μ-loop) → c .message2 .given
 committed-low c =
     let at-room = committed-room c in
     let v = at-loop at-room in
-    named-low _ panel-suits (began v .args .messages .now) (register v) (v .loop .ran) (v .loop .entries) _ _ _ _ (looked at-room) (committed-message c) _ (committed-read c)
+    named-low _ first-suits (began v .args .messages .now) (register v) (v .loop .ran) (v .loop .entries) _ _ _ _ (looked at-room) (committed-message c) _ (committed-read c)
 
 mul-account-2 : tie.Need-mul-account-2 Inv-loop μ-loop
 mul-account-2 c = record { fits = omega (arith, committed-low (c .before .before .before)) }
@@ -349,7 +349,7 @@ file-requires-2 c κs =
     let message = stepped .before .before .before .before .before in
     let at-room = committed-room message in
     let v = at-loop at-room in
-    turn-fits _ panel-suits (began v .args .messages .now) (register v) (v .loop .ran) (v .loop .entries) _ _ _ _ (looked at-room) (committed-message message) _ (committed-read message)
+    turn-fits _ first-suits (began v .args .messages .now) (register v) (v .loop .ran) (v .loop .entries) _ _ _ _ (looked at-room) (committed-message message) _ (committed-read message)
     (stepped .commit .result) (stepped .commit .ensures)
 
 passed-by-requires-2 : tie.Need-passed-by-requires-2 Inv-loop μ-loop
@@ -377,7 +377,7 @@ array-set-from-accounts-2 : tie.Need-array-set-from-accounts-2 Inv-loop μ-loop
 array-set-from-accounts-2 c = committed-low (committed-named (c .before .before))
 
 committed-turn : (c : tie.Joined4 Inv-loop μ-loop) → let v = at-loop (committed-room (committed-named (c .before))) in
-    Turn _ panel-suits (began v .args .messages .now) (register v) (v .loop .ran) (v .loop .entries) (record { accounts = c .if4 .accounts }) (c .before .before .passed-by2 .result) (committed-left (c .before))
+    Turn _ first-suits (began v .args .messages .now) (register v) (v .loop .ran) (v .loop .entries) (record { accounts = c .if4 .accounts }) (c .before .before .passed-by2 .result) (committed-left (c .before))
 committed-turn c =
     let passed = c .before .before .passed-by2 in
     let filed = committed-filed (c .before) .file2 in
@@ -385,7 +385,7 @@ committed-turn c =
     let message = committed-named (c .before) in
     let at-room = committed-room message in
     let v = at-loop at-room in
-    turn-message _ panel-suits (began v .args .messages .now) (register v) (v .loop .ran) (v .loop .entries) _ _ _ _ (looked at-room) (committed-message message) _ (committed-read message)
+    turn-message _ first-suits (began v .args .messages .now) (register v) (v .loop .ran) (v .loop .entries) _ _ _ _ (looked at-room) (committed-message message) _ (committed-read message)
     (stepped .result) (stepped .ensures) (filed .result) (passed .result) (filed .last .1 .1 .1 .1 .0) (record { accounts = c .if4 .accounts })
     (filed .ensures .0) (filed .ensures .1) (passed .ensures)
     (⊎-elim (λ z. inl (z .0 .taken, ap as-register (z .2))) (λ z. inr (z .0 .left, ap as-register (z .1))) (c .if4 .came))
@@ -398,7 +398,7 @@ committed-on c =
     let message = committed-named (c .before) in
     let at-room = committed-room message in
     let v = at-loop at-room in
-    turn-on _ panel-suits (began v .args .messages .now) (register v) (v .loop .ran) (v .loop .entries) _ _ _ _ (looked at-room) (committed-message message) _ (committed-read message)
+    turn-on _ first-suits (began v .args .messages .now) (register v) (v .loop .ran) (v .loop .entries) _ _ _ _ (looked at-room) (committed-message message) _ (committed-read message)
     (stepped .result) (stepped .ensures) (filed .result) (passed .result) (filed .ensures .0) (passed .ensures)
 
 with-message-requires-3 : tie.Need-with-message-requires-3 Inv-loop μ-loop
@@ -406,7 +406,7 @@ with-message-requires-3 c κs =
     let at-room = committed-room (committed-named (c .before)) in
     let v = at-loop at-room in
     let start = began v in
-    (countable _ panel-suits (start .args .messages .now) (start .args .entries .now) (register v) (v .loop .ran) (v .loop .entries) (record { accounts = c .if4 .accounts })
+    (countable _ first-suits (start .args .messages .now) (start .args .entries .now) (register v) (v .loop .ran) (v .loop .entries) (record { accounts = c .if4 .accounts })
     (c .before .before .passed-by2 .result) (committed-left (c .before)) (v .loop .inv) (committed-turn c) (more at-room) (start .good .0 .0) (start .good .1 .0 .0))
 
 loop-less-3 : tie.Need-loop-less-3 Inv-loop μ-loop
@@ -416,7 +416,7 @@ loop-less-3 c =
     let v = at-loop at-room in
     let start = began v in
     rw (c .with-message3 .ensures)
-    (less-left _ panel-suits (start .args .messages .now) (start .args .entries .now) (register v) (v .loop .ran) (v .loop .entries) (record { accounts = joined .if4 .accounts })
+    (less-left _ first-suits (start .args .messages .now) (start .args .entries .now) (register v) (v .loop .ran) (v .loop .entries) (record { accounts = joined .if4 .accounts })
     (joined .before .before .passed-by2 .result) (committed-left (joined .before)) (v .loop .inv) (committed-turn joined) (more at-room) (committed-on joined))
 
 loop-again-3 : tie.Need-loop-again-3 Inv-loop μ-loop
@@ -426,7 +426,7 @@ loop-again-3 c =
     let v = at-loop at-room in
     let start = began v in
     rw (c .with-message3 .ensures)
-    (goes-on _ panel-suits (start .args .messages .now) (start .args .entries .now) (register v) (v .loop .ran) (v .loop .entries) (record { accounts = joined .if4 .accounts })
+    (goes-on _ first-suits (start .args .messages .now) (start .args .entries .now) (register v) (v .loop .ran) (v .loop .entries) (record { accounts = joined .if4 .accounts })
     (joined .before .before .passed-by2 .result) (committed-left (joined .before)) (v .loop .inv) (committed-turn joined) (more at-room) (committed-on joined))
 
 -- An abort.
@@ -452,7 +452,7 @@ aborted-low : (c : tie.After-message3 Inv-loop μ-loop) → c .message3 .given .
 aborted-low c =
     let at-room = aborted-room c in
     let v = at-loop at-room in
-    named-low _ panel-suits (began v .args .messages .now) (register v) (v .loop .ran) (v .loop .entries) _ _ _ _ (looked at-room) (aborted-message c) _ (aborted-read c)
+    named-low _ first-suits (began v .args .messages .now) (register v) (v .loop .ran) (v .loop .entries) _ _ _ _ (looked at-room) (aborted-message c) _ (aborted-read c)
 
 mul-account-3 : tie.Need-mul-account-3 Inv-loop μ-loop
 mul-account-3 c = record { fits = omega (arith, aborted-low (c .before .before .before)) }
@@ -482,7 +482,7 @@ file-requires-3 c κs =
     let message = stepped .before .before .before .before .before in
     let at-room = aborted-room message in
     let v = at-loop at-room in
-    turn-fits _ panel-suits (began v .args .messages .now) (register v) (v .loop .ran) (v .loop .entries) _ _ _ _ (looked at-room) (aborted-message message) _ (aborted-read message)
+    turn-fits _ first-suits (began v .args .messages .now) (register v) (v .loop .ran) (v .loop .entries) _ _ _ _ (looked at-room) (aborted-message message) _ (aborted-read message)
     (stepped .abort .result) (stepped .abort .ensures)
 
 passed-by-requires-3 : tie.Need-passed-by-requires-3 Inv-loop μ-loop
@@ -510,7 +510,7 @@ array-set-from-accounts-3 : tie.Need-array-set-from-accounts-3 Inv-loop μ-loop
 array-set-from-accounts-3 c = aborted-low (aborted-named (c .before .before))
 
 aborted-turn : (c : tie.Joined5 Inv-loop μ-loop) → let v = at-loop (aborted-room (aborted-named (c .before))) in
-    Turn _ panel-suits (began v .args .messages .now) (register v) (v .loop .ran) (v .loop .entries) (record { accounts = c .if5 .accounts }) (c .before .before .passed-by3 .result) (aborted-left (c .before))
+    Turn _ first-suits (began v .args .messages .now) (register v) (v .loop .ran) (v .loop .entries) (record { accounts = c .if5 .accounts }) (c .before .before .passed-by3 .result) (aborted-left (c .before))
 aborted-turn c =
     let passed = c .before .before .passed-by3 in
     let filed = aborted-filed (c .before) .file3 in
@@ -518,7 +518,7 @@ aborted-turn c =
     let message = aborted-named (c .before) in
     let at-room = aborted-room message in
     let v = at-loop at-room in
-    turn-message _ panel-suits (began v .args .messages .now) (register v) (v .loop .ran) (v .loop .entries) _ _ _ _ (looked at-room) (aborted-message message) _ (aborted-read message)
+    turn-message _ first-suits (began v .args .messages .now) (register v) (v .loop .ran) (v .loop .entries) _ _ _ _ (looked at-room) (aborted-message message) _ (aborted-read message)
     (stepped .result) (stepped .ensures) (filed .result) (passed .result) (filed .last .1 .1 .1 .1 .0) (record { accounts = c .if5 .accounts })
     (filed .ensures .0) (filed .ensures .1) (passed .ensures)
     (⊎-elim (λ z. inl (z .0 .taken, ap as-register (z .2))) (λ z. inr (z .0 .left, ap as-register (z .1))) (c .if5 .came))
@@ -531,7 +531,7 @@ aborted-on c =
     let message = aborted-named (c .before) in
     let at-room = aborted-room message in
     let v = at-loop at-room in
-    turn-on _ panel-suits (began v .args .messages .now) (register v) (v .loop .ran) (v .loop .entries) _ _ _ _ (looked at-room) (aborted-message message) _ (aborted-read message)
+    turn-on _ first-suits (began v .args .messages .now) (register v) (v .loop .ran) (v .loop .entries) _ _ _ _ (looked at-room) (aborted-message message) _ (aborted-read message)
     (stepped .result) (stepped .ensures) (filed .result) (passed .result) (filed .ensures .0) (passed .ensures)
 
 with-message-requires-4 : tie.Need-with-message-requires-4 Inv-loop μ-loop
@@ -539,7 +539,7 @@ with-message-requires-4 c κs =
     let at-room = aborted-room (aborted-named (c .before)) in
     let v = at-loop at-room in
     let start = began v in
-    (countable _ panel-suits (start .args .messages .now) (start .args .entries .now) (register v) (v .loop .ran) (v .loop .entries) (record { accounts = c .if5 .accounts })
+    (countable _ first-suits (start .args .messages .now) (start .args .entries .now) (register v) (v .loop .ran) (v .loop .entries) (record { accounts = c .if5 .accounts })
     (c .before .before .passed-by3 .result) (aborted-left (c .before)) (v .loop .inv) (aborted-turn c) (more at-room) (start .good .0 .0) (start .good .1 .0 .0))
 
 loop-less-4 : tie.Need-loop-less-4 Inv-loop μ-loop
@@ -549,7 +549,7 @@ loop-less-4 c =
     let v = at-loop at-room in
     let start = began v in
     rw (c .with-message4 .ensures)
-    (less-left _ panel-suits (start .args .messages .now) (start .args .entries .now) (register v) (v .loop .ran) (v .loop .entries) (record { accounts = joined .if5 .accounts })
+    (less-left _ first-suits (start .args .messages .now) (start .args .entries .now) (register v) (v .loop .ran) (v .loop .entries) (record { accounts = joined .if5 .accounts })
     (joined .before .before .passed-by3 .result) (aborted-left (joined .before)) (v .loop .inv) (aborted-turn joined) (more at-room) (aborted-on joined))
 
 loop-again-4 : tie.Need-loop-again-4 Inv-loop μ-loop
@@ -559,7 +559,7 @@ loop-again-4 c =
     let v = at-loop at-room in
     let start = began v in
     rw (c .with-message4 .ensures)
-    (goes-on _ panel-suits (start .args .messages .now) (start .args .entries .now) (register v) (v .loop .ran) (v .loop .entries) (record { accounts = joined .if5 .accounts })
+    (goes-on _ first-suits (start .args .messages .now) (start .args .entries .now) (register v) (v .loop .ran) (v .loop .entries) (record { accounts = joined .if5 .accounts })
     (joined .before .before .passed-by3 .result) (aborted-left (joined .before)) (v .loop .inv) (aborted-turn joined) (more at-room) (aborted-on joined))
 
 same-length-2 : tie.Need-same-length-2 Inv-loop μ-loop
@@ -569,7 +569,7 @@ returns-2 : tie.Need-returns-2 Inv-loop μ-loop
 returns-2 c =
     let v = c .before .before in
     let start = began v in
-    let whole = ends _ panel-suits (start .args .messages .now) (start .args .entries .now) (register v) (v .loop .ran) (v .loop .entries) (v .loop .inv) (c .if1 .left) in
+    let whole = ends _ first-suits (start .args .messages .now) (start .args .entries .now) (register v) (v .loop .ran) (v .loop .entries) (v .loop .inv) (c .if1 .left) in
     (sym (ap (λ (x : Run). x .counts) whole), sym (ap (λ (x : Run). x .entries) whole))
 
 pub run-spec : {M : Type 1} → statement M

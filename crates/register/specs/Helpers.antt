@@ -1,4 +1,4 @@
--- What the run's own helpers give (contracts of private functions; the law does not need them).
+-- What private functions give: contracts of helpers, which the law does not need.
 -- Assumes nothing.
 use Prim.Native.Nat.{ℕ, _+_, _≤_, _<_, _^_}
 use mathlib.Core.Bool.{cond}
@@ -17,6 +17,15 @@ use Rattle.register.specs.declared.Reply.{Reply}
 use Rattle.register.specs.declared.Reply.the-variants.{Refused, Taken}
 use Rattle.register.specs.declared.runs.Ran.{Ran}
 use Rattle.register.specs.declared.runs.Passed.{Passed}
+
+-- the number of the reader's refusal and of a step's; 0 says that there is none
+abbrev pub readingNumber : Reading → ℕ
+readingNumber (Reading′.Message m consumed) = 0
+readingNumber (Reading′.Refused n) = n
+
+abbrev pub stepNumber : Answer → ℕ
+stepNumber (Answer′.Refused n) = n
+stepNumber Answer′.Taken = 0
 
 -- what was read, with so much room: 4 in place of a message where that is too little for a call's entries
 abbrev pub roomed : Reading → (room : ℕ) → Reading
