@@ -202,17 +202,17 @@ requested-roomy : (c : tie.After-request Inv-loop μ-loop) → let v = at-loop (
 requested-roomy c = at-loop (requested-room (c .before .before .before .before .before)) .loop .inv .room
 
 sub-file : tie.Need-sub-file Inv-loop μ-loop
-sub-file c = requested-roomy (c .before)
+sub-file c = requested-roomy c
 
 part-file-start : tie.Need-part-file-start Inv-loop μ-loop
-part-file-start c = requested-roomy (c .before)
+part-file-start c = requested-roomy c
 
 part-file-end : tie.Need-part-file-end Inv-loop μ-loop
 part-file-end c = search needs
 
 file-requires : tie.Need-file-requires Inv-loop μ-loop
 file-requires c κs =
-    let stepped = c .before .before in
+    let stepped = c .before in
     let message = stepped .before .before .before .before .before in
     let at-room = requested-room message in
     let v = at-loop at-room in
@@ -227,7 +227,7 @@ abbrev requested-filed : tie.After-struct-known3 Inv-loop μ-loop → tie.After-
 requested-filed c = c .before .before .before .before
 
 abbrev requested-step : tie.After-struct-known3 Inv-loop μ-loop → tie.After-request Inv-loop μ-loop
-requested-step c = requested-filed c .before .before .before
+requested-step c = requested-filed c .before .before
 
 abbrev requested-named : tie.After-struct-known3 Inv-loop μ-loop → tie.After-message Inv-loop μ-loop
 requested-named c = requested-step c .before .before .before .before .before
@@ -335,17 +335,17 @@ committed-roomy : (c : tie.After-commit Inv-loop μ-loop) → let v = at-loop (c
 committed-roomy c = at-loop (committed-room (c .before .before .before .before .before)) .loop .inv .room
 
 sub-file-2 : tie.Need-sub-file-2 Inv-loop μ-loop
-sub-file-2 c = committed-roomy (c .before)
+sub-file-2 c = committed-roomy c
 
 part-file-start-2 : tie.Need-part-file-start-2 Inv-loop μ-loop
-part-file-start-2 c = committed-roomy (c .before)
+part-file-start-2 c = committed-roomy c
 
 part-file-end-2 : tie.Need-part-file-end-2 Inv-loop μ-loop
 part-file-end-2 c = search needs
 
 file-requires-2 : tie.Need-file-requires-2 Inv-loop μ-loop
 file-requires-2 c κs =
-    let stepped = c .before .before in
+    let stepped = c .before in
     let message = stepped .before .before .before .before .before in
     let at-room = committed-room message in
     let v = at-loop at-room in
@@ -360,7 +360,7 @@ abbrev committed-filed : tie.After-struct-known5 Inv-loop μ-loop → tie.After-
 committed-filed c = c .before .before .before .before
 
 abbrev committed-step : tie.After-struct-known5 Inv-loop μ-loop → tie.After-commit Inv-loop μ-loop
-committed-step c = committed-filed c .before .before .before
+committed-step c = committed-filed c .before .before
 
 abbrev committed-named : tie.After-struct-known5 Inv-loop μ-loop → tie.After-message2 Inv-loop μ-loop
 committed-named c = committed-step c .before .before .before .before .before
@@ -468,17 +468,17 @@ aborted-roomy : (c : tie.After-abort Inv-loop μ-loop) → let v = at-loop (abor
 aborted-roomy c = at-loop (aborted-room (c .before .before .before .before .before)) .loop .inv .room
 
 sub-file-3 : tie.Need-sub-file-3 Inv-loop μ-loop
-sub-file-3 c = aborted-roomy (c .before)
+sub-file-3 c = aborted-roomy c
 
 part-file-start-3 : tie.Need-part-file-start-3 Inv-loop μ-loop
-part-file-start-3 c = aborted-roomy (c .before)
+part-file-start-3 c = aborted-roomy c
 
 part-file-end-3 : tie.Need-part-file-end-3 Inv-loop μ-loop
 part-file-end-3 c = search needs
 
 file-requires-3 : tie.Need-file-requires-3 Inv-loop μ-loop
 file-requires-3 c κs =
-    let stepped = c .before .before in
+    let stepped = c .before in
     let message = stepped .before .before .before .before .before in
     let at-room = aborted-room message in
     let v = at-loop at-room in
@@ -493,7 +493,7 @@ abbrev aborted-filed : tie.After-struct-known7 Inv-loop μ-loop → tie.After-fi
 aborted-filed c = c .before .before .before .before
 
 abbrev aborted-step : tie.After-struct-known7 Inv-loop μ-loop → tie.After-abort Inv-loop μ-loop
-aborted-step c = aborted-filed c .before .before .before
+aborted-step c = aborted-filed c .before .before
 
 abbrev aborted-named : tie.After-struct-known7 Inv-loop μ-loop → tie.After-message3 Inv-loop μ-loop
 aborted-named c = aborted-step c .before .before .before .before .before
