@@ -3,22 +3,20 @@
 -- Assumes nothing.
 use Prim.Native.Nat.{ℕ, zero, suc, _+_, _*_, _≤_, _<_}
 use native.Mathlib.Omega.{arith}
-use mathlib.Core.Path.{_≡_, refl, sym, _∙_, ap, subst}
+use mathlib.Core.Path.{_≡_, refl, sym, _∙_, ap}
 use mathlib.Core.Logic.{_⊎_, inl, inr}
 use mathlib.Core.Bool.{cond}
 use mathlib.Core.List.{List, [], _∷_, _++_, map, append-nil}
 use mathlib.Core.Option.{none as no-number}
-use lib.ListN.{length, getD, take, drop, length-append, length-drop}
+use lib.ListN.{length, getD, take, drop, length-drop}
 use lib.Seq.{take-append-seam}
 use Rattle.filing.specs.declared.Entries.{Entries}
 use Rattle.account.specs.First.{panel}
 use Rattle.account.specs.Steps.{refusalIn}
 use Rattle.layout.specs.Number.{AreBytes}
 use Rattle.message.specs.declared.Message.{Message}
-use Rattle.message.specs.declared.Reading.the-variants as Reading′
 use Rattle.message.specs.Bytes.{headingOf}
 use Rattle.message.specs.Inverse.{Writable}
-use Rattle.message.specs.Answers.{readOf}
 use Rattle.message.proofs.Inverse.{writes-read}
 use Rattle.entry.specs.Bytes.{bytesOfEntries, listOf}
 use Rattle.register.specs.declared.Register.{Register}

@@ -13,7 +13,7 @@ use Rattle.filing.specs.declared.Weighing.{Weighing}
 use Rattle.filing.specs.declared.Told.{Told}
 use Rattle.filing.specs.declared.Told.the-variants.{Voted, Noted, Applied, Dropped}
 use Rattle.filing.specs.declared.Entry.{Entry}
-use Rattle.filing.specs.Entries.{RuleEntry, entryOf}
+use Rattle.filing.specs.Entries.{entryOf}
 use Rattle.filing.proofs.Slots.{weighing-back}
 use Rattle.layout.specs.Number.{bytesOf, AreBytes}
 use Rattle.layout.specs.Fields.{written, lastAccount}

@@ -18,7 +18,6 @@ use Rattle.filing.specs.declared.Verdict.{Verdict}
 use Rattle.filing.specs.declared.Verdict.the-variants.{Accepted, Rejected, Held}
 use Rattle.filing.specs.declared.Told.{Told}
 use Rattle.filing.specs.declared.Told.the-variants.{Voted, Noted, Applied, Dropped}
-use Rattle.filing.specs.declared.Entry.{Entry}
 use Rattle.layout.specs.Answers.{wroteOver}
 use Rattle.layout.proofs.Answers.{wrote-stays, cond-stays}
 use Rattle.text.specs.Text.{decimalIn, decimal, voteName, nameOf, eventName, headingFields, thenFields, spaced, lineOf, linesOf, longestLine, writeLineOf}
