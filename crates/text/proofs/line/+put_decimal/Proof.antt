@@ -67,8 +67,9 @@ put-decimal-add-result : (t : ℕ) → put-decimal-lts.Need-add-result (
   put-decimal.Post,
 ) (put-decimal-at t) put-decimal.Post
 put-decimal-add-result t c =
-    let at-before = c .before .before .before .before .before .before .before in
-    let start = at-before .before in
+    let at-put1 = c .before .before in
+    let at-if2 = at-put1 .before .before .before in
+    let start = at-if2 .before .before .before in
     omega (arith, start .pre .1)
 
 put-decimal-same-length : (t : ℕ) → put-decimal-lts.Need-same-length (
@@ -152,8 +153,8 @@ put-decimal-add-result-2 : (t : ℕ) → put-decimal-lts.Need-add-result-2 (
   put-decimal.Post,
 ) (put-decimal-at t) put-decimal.Post
 put-decimal-add-result-2 t c =
-    let at-before = c .before .before .before .before .before .before in
-    let at-put-decimal = at-before .before in
+    let at-digit2 = c .before .before .before in
+    let at-put-decimal = at-digit2 .before .before .before .before in
     let start = at-put-decimal .before .before .before .before .before in
     omega (arith, at-put-decimal .put-decimal .ensures .within, start .pre .1)
 
