@@ -11,9 +11,8 @@ use mathlib.Core.Option.{Option, none, some}
 use borrow.Author.Tests.{ltb-false, le-ltb, leb-true}
 use lib.Dec.{leb, ltb, lit≤}
 use lib.ListN.{length, length-append}
-use Rattle.rule.specs.Lists.{every}
 use Rattle.rule.specs.Rule as rule
-use Rattle.rule.specs.Rule.{Rule, Verdict, accept, reject, hold}
+use Rattle.rule.specs.Rule.{Rule}
 use Rattle.rule.specs.Outcome.{outcomes}
 use Rattle.rule.specs.Weigh.{weigh, decide}
 use Rattle.rule.specs.InOrder.{isInOrder}

@@ -193,6 +193,9 @@ none-by bytes = go (leb 17 kind && leb kind 22) (ltb (length bytes) (kindLength 
     k : kind ≡ numberAt bytes 0 1
     k = sym (numbers-plain bytes 0 0 .read1)
 
+    some-bytes : 0 < kindLength kind
+    some-bytes = positive (leb kind 19) (eqb kind 20) (eqb kind 21)
+
     whole : (a : Bool) → leb 17 kind && leb kind 22 ≡ a → cond a (kindLength kind) 0 ≡ wholeOf (rowOfKind entryRows kind)
     whole a p = sym (rw p at (lengths-plain kind))
 
@@ -203,10 +206,9 @@ none-by bytes = go (leb 17 kind && leb kind 22) (ltb (length bytes) (kindLength 
     go false b d p q r = rw (read-unknown bytes kind 0 k (whole false p) refl)
     go true true d p q r = rw (read-short bytes kind (kindLength kind) k (whole true p) (ltb-true (length bytes) (kindLength kind) q))
     go true false true p q r =
-        rw (read-account bytes kind (kindLength kind) k (whole true p) (ltb-false (length bytes) (kindLength kind) q) (rw (numbers-plain bytes 5 0 .read2) (ltb-true 15 (twoAt bytes 5) r)))
+        rw (read-account bytes kind (kindLength kind) k (whole true p) (λ n. omega (arith, some-bytes)) (ltb-false (length bytes) (kindLength kind) q) (rw (numbers-plain bytes 5 0 .read2) (ltb-true 15 (twoAt bytes 5) r)))
     go true false false p q r =
-        let z : 0 < kindLength kind = positive (leb kind 19) (eqb kind 20) (eqb kind 21) in
-        let e = read-fitting bytes kind (kindLength kind) k (whole true p) (λ n. omega arith) (ltb-false (length bytes) (kindLength kind) q) (rw (numbers-plain bytes 5 0 .read2) (ltb-false 15 (twoAt bytes 5) r)) in
+        let e = read-fitting bytes kind (kindLength kind) k (whole true p) (λ n. omega (arith, some-bytes)) (ltb-false (length bytes) (kindLength kind) q) (rw (numbers-plain bytes 5 0 .read2) (ltb-false 15 (twoAt bytes 5) r)) in
         let found = Found (entryAt bytes kind) (numberAt bytes 5 2) (kindLength kind) in
         let event = numberAt bytes 11 1 in
         rw (e, ← numbers-plain bytes 11 0 .read1, ← numbers-plain bytes 12 0 .read4)

@@ -22,7 +22,7 @@ use Rattle.layout.specs.Fields.{rowOfKind, widthsOf, written}
 use Rattle.layout.specs.Shapes.{bytesIn, padded, shapeOf}
 use Rattle.layout.proofs.Stores.{sets-more}
 use Rattle.layout.proofs.Fields.{length-written}
-use Rattle.layout.proofs.Shapes.{found-holds, padded-written}
+use Rattle.layout.proofs.Reading.{shape-written}
 use Rattle.layout.proofs.Tables.{longest}
 use Rattle.entry.specs.Bytes.{entryRows, kindOf, numbersOf, bytesOfEntry, lengthOfTold, bytesOfEntries, wholesOf}
 use Rattle.entry.proofs.Shapes.{rows-hold, shaped}
@@ -52,9 +52,8 @@ pub row-bytes : (account : ℕ) (e : Entry) → written (map bytesIn (shapeOf (r
 unfolding bytesOfEntry lengthOfTold
 row-bytes account e =
     let told = e .told in
-    let found = rowOfKind entryRows (kindOf told) in
     let whole : 0 < lengthOfTold told = rw (← shaped told .whole) (omega arith) in
-    rw (found-holds entryRows (kindOf told) rows-hold whole .widths) (padded-written (widthsOf found) (numbersOf account e) (rw (shaped told .paired)))
+    shape-written entryRows (kindOf told) rows-hold whole (numbersOf account e) (rw (shaped told .paired))
 
 -- no entry has more than 40 bytes
 pub short-told : (told : Told) → lengthOfTold told ≤ 40

@@ -9,7 +9,8 @@ use lib.ListN.{length, getD, drop}
 use Rattle.filing.specs.declared.Entry.{Entry}
 use Rattle.filing.specs.declared.Entries.{Entries}
 use Rattle.layout.specs.Number.{numberAt}
-use Rattle.layout.specs.Fields.{KindRow, rowOfKind, widthsOf, numbersAt, lastAccount}
+use Rattle.layout.specs.Fields.{rowOfKind}
+use Rattle.layout.specs.Reading.{Reader, readRow}
 use Rattle.layout.specs.Answers.{Wrote, wroteOver, refusedWith}
 use Rattle.entry.specs.declared.EntryReading.{EntryReading}
 use Rattle.entry.specs.declared.EntryReading.the-variants.{Found, Nothing}
@@ -45,17 +46,20 @@ abbrev pub thenFits : List ℕ → Bool
 thenFits [] = true
 thenFits (kind ∷ numbers) = eventFits kind (getD numbers 0 0)
 
--- the entry, its account and its length; an account above 15 has none
-abbrev pub readNumbers : (whole : ℕ) (numbers : List ℕ) → EntryReading
-readNumbers whole numbers =
-    cond (ltb lastAccount (getD numbers 2 0)) Nothing
-    (cond (thenFits (drop 4 numbers)) (Found (entryFrom numbers) (getD numbers 2 0) whole) Nothing)
+-- an entry that fits is found, with its account and its length
+abbrev pub foundIf : (fits : Bool) → Entry → (account whole : ℕ) → EntryReading
+foundIf fits e account whole = cond fits (Found e account whole) Nothing
 
--- a kind that is not 17 to 22, or an entry that is not whole, is none
-abbrev pub readKind : Option KindRow → (bytes : List ℕ) → EntryReading
-readKind none bytes = Nothing
-readKind (some r) bytes = cond (ltb (length bytes) (r .whole)) Nothing (readNumbers (r .whole) (numbersAt (widthsOf (some r)) bytes 0))
+-- by the numbers; a kind that is not 17 to 22, an entry that is not whole and one of an account above 15 are none
+abbrev pub entryReader : Reader EntryReading
+entryReader =
+    record {
+      unknown = Nothing;
+      short = Nothing;
+      elsewhere = Nothing;
+      taken = λ (whole : ℕ) (numbers : List ℕ). foundIf (thenFits (drop 4 numbers)) (entryFrom numbers) (getD numbers 2 0) whole;
+    }
 
 -- the reader of one entry; bytes behind it play no part (9.6)
 unfoldable pub readOf : (bytes : List ℕ) → EntryReading
-readOf bytes = readKind (rowOfKind entryRows (numberAt bytes 0 1)) bytes
+readOf bytes = readRow entryReader (rowOfKind entryRows (numberAt bytes 0 1)) bytes

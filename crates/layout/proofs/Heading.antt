@@ -2,12 +2,12 @@
 -- Assumes nothing.
 use Prim.Native.Nat.{ℕ, _^_, _≤_, _<_}
 use native.Mathlib.Omega.{arith}
-use mathlib.Core.Path.{_≡_, refl}
+use mathlib.Core.Path.{_≡_}
 use mathlib.Core.List.{List, _++_}
 use Rattle.filing.specs.declared.Filed.{Filed}
 use Rattle.layout.specs.Number.{numberAt, AreBytes}
-use Rattle.layout.specs.Fields.{numbersAt, heading, lastAccount}
-use Rattle.layout.specs.Heading.{headingNumbers, filedFrom, FiledFits}
+use Rattle.layout.specs.Fields.{heading, lastAccount}
+use Rattle.layout.specs.Heading.{headingNumbers, FiledFits}
 use Rattle.layout.specs.Inverse.{Fit, one}
 use Rattle.layout.specs.Plain.{filedIn}
 use Rattle.layout.proofs.Numbers.{numberAt-fits}
@@ -23,11 +23,6 @@ fit-heading kind transaction account g k t a s fit =
 -- what is filed in the bytes, read by its width
 abbrev pub filedAt : (bytes : List ℕ) → Filed
 filedAt bytes = record { second = numberAt bytes 7 4 }
-
--- whatever follows the heading, that is what its numbers give,
-pub filed-read : (then bytes : List ℕ) → filedFrom (numbersAt (heading ++ then) bytes 0) ≡ filedAt bytes
-unfolding numbersAt
-filed-read then bytes = refl
 
 -- plainly,
 pub filed-plain : (bytes : List ℕ) → filedAt bytes ≡ filedIn bytes

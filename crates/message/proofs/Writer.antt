@@ -13,7 +13,7 @@ use Rattle.layout.specs.Shapes.{bytesIn, padded, shapeOf}
 use Rattle.layout.specs.Answers.{wroteOver, refusedWith}
 use Rattle.layout.proofs.Stores.{laid-over}
 use Rattle.layout.proofs.Fields.{length-written}
-use Rattle.layout.proofs.Shapes.{found-holds, padded-written}
+use Rattle.layout.proofs.Reading.{shape-written}
 use Rattle.message.specs.declared.Message.{Message}
 use Rattle.message.specs.Bytes.{messages, kindOf, headingOf, numbersOf, bytesOfMessage, lengthOfMessage}
 use Rattle.message.specs.Answers.{writeOf}
@@ -27,9 +27,8 @@ length-message m = length-written (widthsOf (rowOfKind messages (kindOf m))) (nu
 row-bytes : (m : Message) → written (map bytesIn (shapeOf (rowOfKind messages (kindOf m)) .widths)) (padded (numbersOf m)) ≡ bytesOfMessage m
 unfolding bytesOfMessage lengthOfMessage
 row-bytes m =
-    let found = rowOfKind messages (kindOf m) in
     let whole : 0 < lengthOfMessage m = rw (← shaped m .whole) (omega arith) in
-    rw (found-holds messages (kindOf m) rows-hold whole .widths) (padded-written (widthsOf found) (numbersOf m) (shaped m .paired))
+    shape-written messages (kindOf m) rows-hold whole (numbersOf m) (shaped m .paired)
 
 pub write-account : (m : Message) (l : List ℕ) → lastAccount < headingOf m .account → writeOf m l ≡ refusedWith 3 l
 unfolding writeOf

@@ -5,9 +5,10 @@ use mathlib.Core.Bool.{cond}
 use mathlib.Core.List.{List}
 use mathlib.Core.Option.{Option, none, some}
 use lib.Dec.{eqb, ltb}
-use lib.ListN.{length, getD}
+use lib.ListN.{length}
 use Rattle.layout.specs.Number.{numberAt}
-use Rattle.layout.specs.Fields.{KindRow, rowOfKind, widthsOf, numbersAt, lastAccount}
+use Rattle.layout.specs.Fields.{KindRow, rowOfKind, lastAccount}
+use Rattle.layout.specs.Reading.{Reader, readFields, readRow}
 use Rattle.layout.specs.Answers.{Wrote, wroteOver, refusedWith}
 use Rattle.message.specs.declared.Message.{Message}
 use Rattle.message.specs.declared.Reading.{Reading}
@@ -24,15 +25,21 @@ abbrev pub saidOfReading : Reading → SaidOfReading
 saidOfReading (Reading′.Message m whole) = record { refusal = none; consumed = whole; message = some m }
 saidOfReading (Reading′.Refused number) = record { refusal = some number; consumed = 0; message = none }
 
--- 3: the register has no such account
-abbrev pub readNumbers : (whole : ℕ) (numbers : List ℕ) → Reading
-readNumbers whole numbers = cond (ltb lastAccount (getD numbers 2 0)) (Reading′.Refused 3) (Reading′.Message (messageOf numbers) whole)
+-- 2: no message has this kind; 1: bytes are missing; 3: the register has no such account
+abbrev pub messageReader : Reader Reading
+messageReader =
+    record {
+      unknown = Reading′.Refused 2;
+      short = Reading′.Refused 1;
+      elsewhere = Reading′.Refused 3;
+      taken = λ (whole : ℕ) (numbers : List ℕ). Reading′.Message (messageOf numbers) whole;
+    }
 
--- 2: no message has this kind; 1: bytes are missing
+abbrev pub readNumbers : (whole : ℕ) (numbers : List ℕ) → Reading
+readNumbers whole numbers = readFields messageReader whole numbers
+
 abbrev pub readKind : Option KindRow → (bytes : List ℕ) → Reading
-readKind none bytes = Reading′.Refused 2
-readKind (some r) bytes =
-    cond (ltb (length bytes) (r .whole)) (Reading′.Refused 1) (readNumbers (r .whole) (numbersAt (widthsOf (some r)) bytes 0))
+readKind found bytes = readRow messageReader found bytes
 
 -- the reader: 1 where there is no byte; else the kind is looked at before the length, and both before the account (10.2)
 unfoldable pub readOf : (bytes : List ℕ) → Reading

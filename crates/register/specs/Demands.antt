@@ -4,7 +4,7 @@
 use Prim.Native.Nat.{ℕ, _<_, _≤_}
 use mathlib.Core.Path.{_≡_}
 use mathlib.Core.Bool.{true}
-use mathlib.Core.List.{List, [], _∷_, _++_, map}
+use mathlib.Core.List.{List, [], _++_, map}
 use mathlib.Core.Option.{Option, none, some}
 use lib.ListN.{length, drop, set, replicate}
 use Rattle.rule.specs.Call.{Answer, refused, taken, Called, call}
@@ -17,27 +17,30 @@ use Rattle.filing.specs.declared.Filed.{Filed}
 use Rattle.filing.specs.declared.Decision.the-variants.{Undecided}
 use Rattle.filing.specs.declared.Slot.{Slot}
 use Rattle.filing.specs.Slots.{RuleSlot}
-use Rattle.filing.specs.Entries.{entryOf}
+use Rattle.filing.specs.Entries.{entryOf, entriesOf}
 use Rattle.account.specs.declared.Account.{Account}
+use Rattle.account.specs.declared.Answer.the-variants as Answer′
 use Rattle.account.specs.Places.{RuleAccount, listsOf, accountOf}
 use Rattle.account.specs.Steps.{shownBy}
 use Rattle.account.specs.First.{panel, inOrderOf}
 use Rattle.account.specs.Table.{TableHolds, OutcomesOfTheTable}
 use Rattle.message.specs.declared.Message.{Message}
 use Rattle.message.specs.declared.Reading.the-variants as Reading′
+use Rattle.message.specs.Bytes.{headingOf}
 use Rattle.message.specs.Answers.{readOf}
 use Rattle.message.specs.Inverse.{ReadsWritten, WritesRead}
 use Rattle.message.specs.Refusals.{ReaderRefuses, WriterRefuses}
 use Rattle.entry.specs.Bytes.{bytesOfEntries}
 use Rattle.register.specs.declared.Register.{Register}
-use Rattle.register.specs.Register.{ruleMessage, accountAt}
+use Rattle.register.specs.declared.Sent.{Sent}
+use Rattle.register.specs.Register.{ruleMessage}
 use Rattle.register.specs.Call.{Result, refusalOf, consumedOf, writtenOf}
-use Rattle.register.specs.First.{freshRegister, outlookIn, callOf, after, exchanges}
+use Rattle.register.specs.First.{freshRegister, sentOf, outlookIn, callOf, after, exchanges}
 use Rattle.register.specs.Sequence.{Input, Exchange, ByteStrings, EachOnlyEntries, OneMoreCall, Sight, SerialPast}
 use Rattle.register.specs.Sends.{CallIsSend, SentReadsBack}
 use Rattle.register.specs.Filed.{FiledNeverMatters}
 use Rattle.register.specs.Seconds.{SecondsNeverMatter}
-use Rattle.register.specs.Refusals.{accountIn, SendRefuses, CallRefuses, OutlookTells}
+use Rattle.register.specs.Refusals.{accountIn, standingAt, SendRefuses, CallRefuses, OutlookTells}
 use Rattle.register.specs.Own.{EachOwnEntry, Brings}
 use Rattle.register.specs.Unchanged.{SendLeaves, Refusal, Taking}
 use Rattle.register.specs.Run.{EmptyRun, BoundNeverMatters, EachRunKept, BufferNeverShows}
@@ -61,6 +64,11 @@ RuledBy r buffer i consumed next (taken xs) result =
 
 abbrev pub Ruled : Register → (buffer : List ℕ) (account consumed : ℕ) → Called Filed State Event ℕ → Result → Type 0
 Ruled r buffer i consumed called result = RuledBy r buffer i consumed (called .account) (called .answer) result
+
+-- and as values: a message that is refused changes nothing and brings no entry; else the account that follows stands in its place, and these are the entries
+abbrev pub sentAsRuled : Register → (account : ℕ) → RuleAccount → Answer Filed Event ℕ → Sent
+sentAsRuled r i next (refused n) = record { register = r; entries = entriesOf []; answer = Answer′.Refused n }
+sentAsRuled r i next (taken xs) = record { register = record { accounts = set (r .accounts) i (accountOf next) }; entries = entriesOf xs; answer = Answer′.Taken }
 
 -- a new account, and its places
 abbrev pub blankPlaces : List Slot
@@ -92,11 +100,19 @@ pub record Demand1 : Type 0 where
 abbrev pub AsTheRule : Type 0
 AsTheRule =
     (r : Register) (bytes buffer : List ℕ) (m : Message) (consumed : ℕ) → readOf bytes ≡ Reading′.Message m consumed → 315 ≤ length buffer
-    → inOrderOf (accountAt r (accountIn bytes)) ≡ true
-    → Ruled r buffer (accountIn bytes) consumed (call panel (listsOf (accountAt r (accountIn bytes))) (ruleMessage m)) (callOf r bytes buffer)
+    → inOrderOf (standingAt r (accountIn bytes)) ≡ true
+    → Ruled r buffer (accountIn bytes) consumed (call panel (listsOf (standingAt r (accountIn bytes))) (ruleMessage m)) (callOf r bytes buffer)
+
+-- and of a message as a value
+abbrev pub SentAsTheRule : Type 0
+SentAsTheRule =
+    (r : Register) (m : Message) → headingOf m .account ≤ 15 → inOrderOf (standingAt r (headingOf m .account)) ≡ true
+    → let called = call panel (listsOf (standingAt r (headingOf m .account))) (ruleMessage m) in
+    sentOf r m ≡ sentAsRuled r (headingOf m .account) (called .account) (called .answer)
 
 pub record Demand2 : Type 0 where
   pub decided : AsTheRule
+  pub decided-sent : SentAsTheRule
   -- a call is read, send, write;
   pub sent : CallIsSend panel
   pub back : SentReadsBack panel
@@ -130,7 +146,7 @@ pub record Demand3 : Type 0 where
   pub sight : (i : ℕ) (xs : List Exchange) (x : Exchange) → Sight i xs x
   pub whole : (inputs : List Input) → ByteStrings inputs → EachOnlyEntries (exchanges freshRegister inputs)
   -- every account is in order, so that 5 is given neither by a call nor by the outcome question
-  pub inOrder : (inputs : List Input) (i : ℕ) → i < 16 → inOrderOf (accountAt (after freshRegister inputs) i) ≡ true
+  pub inOrder : (inputs : List Input) (i : ℕ) → i < 16 → inOrderOf (standingAt (after freshRegister inputs) i) ≡ true
   pub never-five : (inputs : List Input) (bytes buffer : List ℕ) → refusalOf (callOf (after freshRegister inputs) bytes buffer .reply) ≡ some 5 → ⊥
   pub never-asked-five : (inputs : List Input) (i n : ℕ) → shownBy (outlookIn (after freshRegister inputs) i n) .refusal ≡ some 5 → ⊥
 

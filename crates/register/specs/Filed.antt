@@ -19,7 +19,8 @@ use Rattle.message.specs.Bytes.{headingOf}
 use Rattle.entry.specs.Bytes.{listOf}
 use Rattle.register.specs.declared.Register.{Register}
 use Rattle.register.specs.declared.Sent.{Sent}
-use Rattle.register.specs.Register.{ruleMessage, accountAt, sentBy}
+use Rattle.register.specs.Register.{ruleMessage, sentBy}
+use Rattle.register.specs.Refusals.{standingAt}
 use Rattle.register.specs.Sequence.{ruleEntry}
 
 module _ (R : Rule State Event ℕ) (f : Filed → Filed) where
@@ -32,7 +33,7 @@ module _ (R : Rule State Event ℕ) (f : Filed → Filed) where
   pub record SameRegister (r r′ : Register) : Type 0 where
     pub sixteen : length (r .accounts) ≡ 16
     pub sixteen′ : length (r′ .accounts) ≡ 16
-    pub accounts : (i : ℕ) → i ≤ 15 → SameAccount (accountAt r i) (accountAt r′ i)
+    pub accounts : (i : ℕ) → i ≤ 15 → SameAccount (standingAt r i) (standingAt r′ i)
 
   -- what two messages give
   pub record SameSent (x y : Sent) : Type 0 where

@@ -16,5 +16,4 @@ pub mod RunSeconds
 pub mod Demands
 pub mod Samples
 pub mod Forms
-pub mod Numbers
-pub mod Filing
+pub mod Helpers

@@ -24,7 +24,7 @@ use Rattle.account.specs.Steps.{refusalIn, Shown, shownBy}
 use Rattle.message.specs.declared.Message.{Message}
 use Rattle.message.specs.Bytes.{kindOf, headingOf}
 use Rattle.register.specs.declared.Register.{Register}
-use Rattle.register.specs.Register.{accountAt, sentBy, askedBy}
+use Rattle.register.specs.Register.{nowhere, sentBy, askedBy}
 use Rattle.register.specs.Call.{refusalOf, calledBy}
 
 -- a message's numbers by its bytes, highest byte first: transaction, account
@@ -37,6 +37,10 @@ accountIn bytes = getD bytes 5 0 * 256 + getD bytes 6 0
 -- the whole length of a kind 1 to 6
 abbrev pub lengthBy : (kind : ℕ) → ℕ
 lengthBy kind = cond (leb kind 3) 15 11
+
+-- the account of a number, as it stands among the register's accounts
+abbrev pub standingAt : Register → ℕ → Account
+standingAt r i = getD (r .accounts) i nowhere
 
 -- the used places of an account,
 abbrev pub progressIn : Account → List Slot
@@ -81,7 +85,7 @@ module _ (R : Rule State Event ℕ) where
   abbrev pub sendTests : Register → Message → List Test
   sendTests r m =
       let i = headingOf m .account in
-      test (ltb 15 i) 3 ∷ accountTests (kindOf m) (accountAt r i) (headingOf m .transaction)
+      test (ltb 15 i) 3 ∷ accountTests (kindOf m) (standingAt r i) (headingOf m .transaction)
 
   -- the call
   abbrev pub callTests : Register → (bytes buffer : List ℕ) → List Test
@@ -92,7 +96,7 @@ module _ (R : Rule State Event ℕ) where
       test (ltb (length bytes) (lengthBy kind)) 1 ∷
       test (ltb 15 (accountIn bytes)) 3 ∷
       test (ltb (length buffer) 315) 4 ∷
-      accountTests kind (accountAt r (accountIn bytes)) (transactionIn bytes)
+      accountTests kind (standingAt r (accountIn bytes)) (transactionIn bytes)
 
   -- each is refused with the number of the first test that holds, and not at all if none does
   abbrev pub SendRefuses : Type 0
@@ -104,7 +108,7 @@ module _ (R : Rule State Event ℕ) where
   -- the outcome question
   abbrev pub outlookTests : Register → (account number : ℕ) → List Test
   outlookTests r i n =
-      let a = accountAt r i in
+      let a = standingAt r i in
       test (ltb 15 i) 3 ∷
       test (not (inOrderBy R a)) 5 ∷
       test (leb (2 ^ undecidedIn a) n) 12 ∷
@@ -115,4 +119,4 @@ module _ (R : Rule State Event ℕ) where
   OutlookTells =
       (r : Register) (i n : ℕ)
       → shownBy (askedBy R r i n)
-      ≡ answeredAs (firstOf (outlookTests r i n)) (chosenState R (map slotOf (progressIn (accountAt r i))) (bit n) (accountAt r i .state)) (ones n)
+      ≡ answeredAs (firstOf (outlookTests r i n)) (chosenState R (map slotOf (progressIn (standingAt r i))) (bit n) (standingAt r i .state)) (ones n)

@@ -32,9 +32,9 @@ use Rattle.entry.specs.Answers as entry
 use Rattle.register.specs.declared.Register.{Register}
 use Rattle.register.specs.declared.Reply.{Reply}
 use Rattle.register.specs.declared.Reply.the-variants.{Refused, Taken}
-use Rattle.register.specs.Register.{ruleMessage, accountAt, freshBy}
+use Rattle.register.specs.Register.{ruleMessage, freshBy}
 use Rattle.register.specs.Call.{refusalOf, writtenOf, calledBy}
-use Rattle.register.specs.Refusals.{accountIn}
+use Rattle.register.specs.Refusals.{accountIn, standingAt}
 
 -- what is handed to a call: the message bytes and the entry buffer
 pub record Input : Type 0 where
@@ -129,7 +129,7 @@ module _ (R : rule.Rule State Event ℕ) where
 
   -- what demand 3 says of the account of a number after these calls of a fresh register, by what it has seen of them
   abbrev pub SerialPast : List Input → (account : ℕ) → Type 0
-  SerialPast inputs i = rule-demand.Demand3 R (listsOf (accountAt (after R (freshBy R) inputs) i)) (seenBy i (exchanges R (freshBy R) inputs))
+  SerialPast inputs i = rule-demand.Demand3 R (listsOf (standingAt (after R (freshBy R) inputs) i)) (seenBy i (exchanges R (freshBy R) inputs))
 
 -- an account sees the exchanges whose messages name it, in their order, and no other
 pub record Sight (i : ℕ) (xs : List Exchange) (x : Exchange) : Type 0 where

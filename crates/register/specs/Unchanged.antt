@@ -4,7 +4,7 @@
 use Prim.Native.Nat.{ℕ, _≤_}
 use mathlib.Core.Path.{_≡_}
 use mathlib.Core.List.{List, []}
-use mathlib.Core.Option.{none, some}
+use mathlib.Core.Option.{some}
 use lib.ListN.{length, getD, drop}
 use Rattle.rule.specs.Rule.{Rule}
 use Rattle.events.specs.declared.Event.{Event}
@@ -15,16 +15,16 @@ use Rattle.message.specs.declared.Message.{Message}
 use Rattle.message.specs.Bytes.{headingOf}
 use Rattle.register.specs.declared.Register.{Register}
 use Rattle.register.specs.declared.Reply.{Reply}
-use Rattle.register.specs.Register.{accountAt, sentBy}
+use Rattle.register.specs.Register.{sentBy}
 use Rattle.register.specs.Call.{refusalOf, consumedOf, writtenOf, calledBy}
-use Rattle.register.specs.Refusals.{accountIn, lengthBy}
+use Rattle.register.specs.Refusals.{accountIn, lengthBy, standingAt}
 
 module _ (R : Rule State Event ℕ) (r : Register) (m : Message) where
   -- a message that is refused changes nothing and brings no entry; one that is taken changes the account that it names alone
   pub record SendLeaves : Type 0 where
     pub refused : (n : ℕ) → refusalIn (sentBy R r m .answer) ≡ some n → (sentBy R r m .register ≡ r) × (sentBy R r m .entries ≡ entriesOf [])
     pub count : length (sentBy R r m .register .accounts) ≡ length (r .accounts)
-    pub others : (j : ℕ) → (j ≡ headingOf m .account → ⊥) → accountAt (sentBy R r m .register) j ≡ accountAt r j
+    pub others : (j : ℕ) → (j ≡ headingOf m .account → ⊥) → standingAt (sentBy R r m .register) j ≡ standingAt r j
 
 module _ (R : Rule State Event ℕ) (r : Register) (bytes buffer : List ℕ) where
   -- a refusal has a number of the list, consumed and written length 0, and changes neither register nor buffer
@@ -47,7 +47,7 @@ module _ (R : Rule State Event ℕ) (r : Register) (bytes buffer : List ℕ) whe
     pub rest : drop (writtenOf (calledBy R r bytes buffer .reply)) (calledBy R r bytes buffer .buffer) ≡ drop (writtenOf (calledBy R r bytes buffer .reply)) buffer
     -- as many accounts, and all but one as they were
     pub count : length (calledBy R r bytes buffer .register .accounts) ≡ length (r .accounts)
-    pub others : (j : ℕ) → (j ≡ accountIn bytes → ⊥) → accountAt (calledBy R r bytes buffer .register) j ≡ accountAt r j
+    pub others : (j : ℕ) → (j ≡ accountIn bytes → ⊥) → standingAt (calledBy R r bytes buffer .register) j ≡ standingAt r j
 
 -- what is said of a reply tells the replies apart
 abbrev pub RepliesApart : Type 0
