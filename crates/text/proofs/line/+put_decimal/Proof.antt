@@ -67,9 +67,10 @@ put-decimal-add-result : (t : ℕ) → put-decimal-lts.Need-add-result (
   put-decimal.Post,
 ) (put-decimal-at t) put-decimal.Post
 put-decimal-add-result t c =
-    let at-before = c .before .before .before .before .before .before .before in
-    let start = at-before .before in
-    omega (arith, start .pre .1 .0)
+    let at-put1 = c .before .before in
+    let at-if2 = at-put1 .before .before .before in
+    let start = at-if2 .before .before .before in
+    omega (arith, start .pre .1)
 
 put-decimal-same-length : (t : ℕ) → put-decimal-lts.Need-same-length (
   digit-reads.Asked,
@@ -121,7 +122,7 @@ put-decimal-put-decimal-requires : (t : ℕ) → put-decimal-lts.Need-put-decima
 put-decimal-put-decimal-requires t c κs =
     let at-if1 = c .before .before in
     let start = at-if1 .before .before in
-    omega (arith, at-if1 .if1 .left, start .pre .0, start .pre .1 .0, start .pre .1 .1)
+    omega (arith, at-if1 .if1 .left, start .pre .0, start .pre .1)
 
 put-decimal-digit-requires-2 : (t : ℕ) → put-decimal-lts.Need-digit-requires-2 (
   digit-reads.Asked,
@@ -152,10 +153,10 @@ put-decimal-add-result-2 : (t : ℕ) → put-decimal-lts.Need-add-result-2 (
   put-decimal.Post,
 ) (put-decimal-at t) put-decimal.Post
 put-decimal-add-result-2 t c =
-    let at-before = c .before .before .before .before .before .before in
-    let at-put-decimal = at-before .before in
+    let at-digit2 = c .before .before .before in
+    let at-put-decimal = at-digit2 .before .before .before .before in
     let start = at-put-decimal .before .before .before .before .before in
-    omega (arith, at-put-decimal .put-decimal .ensures .within, start .pre .1 .0, start .pre .1 .1)
+    omega (arith, at-put-decimal .put-decimal .ensures .within, start .pre .1)
 
 put-decimal-same-length-2 : (t : ℕ) → put-decimal-lts.Need-same-length-2 (
   digit-reads.Asked,
