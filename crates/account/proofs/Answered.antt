@@ -22,8 +22,8 @@ use Rattle.account.specs.Places.{listsOf}
 use Rattle.account.specs.InOrder.{inOrderBy}
 use Rattle.account.specs.Steps.{refusalIn, refusedStep, stepBy}
 use Rattle.account.specs.First.{panel, inOrderOf}
-use Rattle.account.specs.Judged.{Judges, answerBy, messageAsks, messageNames}
-use Rattle.account.specs.Taken.{takenAs}
+use Rattle.account.specs.inside.Judged.{Judges, answerBy, messageAsks, messageNames}
+use Rattle.account.specs.inside.Taken.{takenAs}
 use Rattle.account.proofs.Clauses.{clauses}
 use Rattle.account.proofs.Judged.{judged-refusal}
 

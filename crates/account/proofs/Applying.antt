@@ -22,7 +22,7 @@ use Rattle.filing.specs.Entries.{RuleEntry, entryOf, entriesOf, onlyEntry}
 use Rattle.account.specs.declared.Account.{Account}
 use Rattle.account.specs.declared.Stepped.{Stepped}
 use Rattle.account.specs.First.{panel}
-use Rattle.account.specs.Taken.{takenAs, listed, markedAt, Settles, Drains}
+use Rattle.account.specs.inside.Taken.{takenAs, listed, markedAt, Settles, Drains}
 use Rattle.account.proofs.Padded.{RowOf, progress-row, held-row, state-is, account-is}
 use Rattle.account.proofs.Slices.{usedFrom, used-length}
 use Rattle.account.proofs.MovedUp.{MovedUp, up-none, up-here, up-gone, up-kept, up-all}

@@ -34,8 +34,8 @@ use Rattle.account.specs.declared.Stepped.{Stepped}
 use Rattle.account.specs.declared.outcomes.Outcomes.{Outcomes}
 use Rattle.account.specs.Places.{RuleAccount, padded, listsOf, accountOf}
 use Rattle.account.specs.First.{panel, inOrderOf}
-use Rattle.account.specs.Known.{Knows, Decides}
-use Rattle.account.specs.Taken.{takenAs}
+use Rattle.account.specs.inside.Known.{Knows, Decides}
+use Rattle.account.specs.inside.Taken.{takenAs}
 use Rattle.account.proofs.Padded.{RowOf, progress-row, held-row, state-is, account-is}
 use Rattle.account.proofs.Ordered.{ordered}
 use Rattle.account.proofs.Taken.{taken-is}

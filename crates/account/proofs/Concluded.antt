@@ -23,8 +23,8 @@ use Rattle.account.specs.Places.{used, listsOf}
 use Rattle.account.specs.InOrder.{inOrderBy}
 use Rattle.account.specs.declared.outcomes.Outcomes.{Outcomes}
 use Rattle.account.specs.First.{panel, inOrderOf}
-use Rattle.account.specs.Known.{Knows}
-use Rattle.account.specs.Judged.{allDiffer, Judges}
+use Rattle.account.specs.inside.Known.{Knows}
+use Rattle.account.specs.inside.Judged.{allDiffer, Judges}
 use Rattle.account.proofs.Clauses as ordered
 use Rattle.account.proofs.Sought.{lastNamed, only-found}
 use Rattle.account.proofs.Passed.{transactionIn, EventsPassed, RequestsPassed}
@@ -140,8 +140,6 @@ module _ (a : Account) (t : ℕ) (outcomes : Outcomes) where
 
 -- and of any other, past all its places
 pub record AllPassed (a : Account) (t : ℕ) (outcomes : Outcomes) (event request : ℕ) (found : Slot) (all differ : Bool) : Type 0 where
-  pub many : length (a .progress) ≡ places
-  pub manyHeld : length (a .held) ≡ places
   pub few : a .progressing ≤ places
   pub fewHeld : a .holding ≤ places
   -- what was found of the events in progress, with the clauses so far and the transactions noted,

@@ -21,7 +21,7 @@ use Rattle.filing.specs.Slots.{RuleSlot}
 use Rattle.filing.specs.Entries.{isHeld, verdictOf}
 use Rattle.account.specs.declared.outcomes.Outcomes.{Outcomes}
 use Rattle.account.specs.First.{progressLimit, heldLimit, panel}
-use Rattle.account.specs.Known.{Decides, StaysHeld, verdictBy}
+use Rattle.account.specs.inside.Known.{Decides, StaysHeld, verdictBy}
 
 by-tests : (a b : Bool) → verdictOf (verdictBy a b) ≡ cond a rule.accept (cond b rule.hold rule.reject)
 by-tests true b = refl

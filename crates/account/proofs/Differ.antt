@@ -10,7 +10,7 @@ use lib.Dec.{eqb}
 use lib.ListN.{length, getD, take, length-take, drop-of-length-le}
 use lib.Seq.{slice, slice-cons}
 use Rattle.rule.specs.Lists.{some-of}
-use Rattle.account.specs.Judged.{allDiffer}
+use Rattle.account.specs.inside.Judged.{allDiffer}
 
 module _ (numbers : List ℕ) (count at : ℕ) where
   -- the first numbers, so many of them, from a place on

@@ -33,7 +33,7 @@ use Rattle.filing.specs.Entries.{RuleEntry, isAccepted, isHeld, verdictOf, weig
 use Rattle.filing.proofs.Slots.{place-slot}
 use Rattle.filing.proofs.Filled.{fill-next}
 use Rattle.account.specs.Places.{RuleAccount, padded}
-use Rattle.account.specs.Taken.{RuleStep, listed, takenAs}
+use Rattle.account.specs.inside.Taken.{RuleStep, listed, takenAs}
 use Rattle.account.proofs.Taken.{entries-with, after-after}
 use Rattle.account.proofs.Slices.{usedFrom, used-end, used-next}
 

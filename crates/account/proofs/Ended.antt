@@ -29,8 +29,8 @@ use Rattle.account.specs.declared.Account.{Account}
 use Rattle.account.specs.declared.Stepped.{Stepped}
 use Rattle.account.specs.Places.{RuleAccount, used, listsOf, accountOf}
 use Rattle.account.specs.First.{panel}
-use Rattle.account.specs.Judged.{FoundAt}
-use Rattle.account.specs.Taken.{takenAs, listed, markedAt, WithoutEvent, WithoutRequest, Settles}
+use Rattle.account.specs.inside.Judged.{FoundAt}
+use Rattle.account.specs.inside.Taken.{takenAs, listed, markedAt, WithoutEvent, WithoutRequest, Settles}
 use Rattle.account.proofs.Padded.{progress-row, held-row}
 use Rattle.account.proofs.Ordered.{Ordered, marked-guarded, without-guarded}
 use Rattle.account.proofs.Marked.{marked-used}

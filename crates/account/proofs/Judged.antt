@@ -28,7 +28,7 @@ use Rattle.account.specs.declared.refusing.Asked.{Asked}
 use Rattle.account.specs.Places.{listsOf}
 use Rattle.account.specs.Steps.{refusalIn}
 use Rattle.account.specs.First.{panel, heldLimit, inOrderOf}
-use Rattle.account.specs.Judged.{Judges, requestAnswer, commitAnswer, abortAnswer, askedAnswer, answerBy, messageAsks, messageNames}
+use Rattle.account.specs.inside.Judged.{Judges, requestAnswer, commitAnswer, abortAnswer, askedAnswer, answerBy, messageAsks, messageNames}
 use Rattle.account.proofs.Places.{count-used}
 use Rattle.account.proofs.Clauses.{rule-clauses}
 

@@ -30,7 +30,7 @@ use Rattle.filing.specs.declared.Decision.the-variants.{Undecided, Committed}
 use Rattle.filing.specs.declared.Filed.{Filed}
 use Rattle.filing.specs.declared.Slot.{Slot}
 use Rattle.filing.specs.Slots.{RuleSlot, isUndecided, decisionOf}
-use Rattle.account.specs.Known.{Knows}
+use Rattle.account.specs.inside.Known.{Knows}
 
 abbrev known : Range → ℕ → Bool → Outcomes
 known range number guarded = record { range = range; number = number; guarded = guarded }

@@ -17,7 +17,7 @@ use Rattle.rule.proofs.Apart.{apart-at}
 use Rattle.filing.specs.declared.Slot.{Slot}
 use Rattle.filing.specs.Slots.{RuleSlot, slotOf, decisionOf, committedSlot, blank}
 use Rattle.account.specs.Places.{used}
-use Rattle.account.specs.Taken.{markedAt}
+use Rattle.account.specs.inside.Taken.{markedAt}
 
 mark-none : (t : ℕ) (xs : List RuleSlot) → some-of (named t) xs ≡ false → mark t xs ≡ xs
 mark-none t [] h = refl

@@ -23,7 +23,7 @@ use Rattle.filing.specs.declared.Slot.{Slot}
 use Rattle.filing.specs.Slots.{RuleSlot, places, blank, isBlank, isUndecided, decisionOf, slotOf}
 use Rattle.account.specs.declared.Account.{Account}
 use Rattle.account.specs.Places.{used}
-use Rattle.account.specs.Judged.{bothRows}
+use Rattle.account.specs.inside.Judged.{bothRows}
 use Rattle.account.proofs.Places.{take-more, used-more, count-used, drop-next}
 use Rattle.account.proofs.Sought.{SoughtBefore, sought-none}
 

@@ -31,7 +31,7 @@ use Rattle.account.specs.Places.{listsOf}
 use Rattle.account.specs.InOrder.{inOrderBy}
 use Rattle.account.specs.Steps.{refusalIn, refusedBy, stepBy}
 use Rattle.account.specs.First.{panel, inOrderOf}
-use Rattle.account.specs.Taken.{takenAs}
+use Rattle.account.specs.inside.Taken.{takenAs}
 use Rattle.account.specs.Promises.{isCommitted, stands, standsCommitted, stepTests, StepPromise}
 use Rattle.account.proofs.Padded.{lists-account}
 use Rattle.account.proofs.Refused.{by, refusal-same}

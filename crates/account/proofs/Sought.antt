@@ -15,7 +15,7 @@ use Rattle.rule.proofs.Lists.{and-left, and-right, or-left, or-right, some-appe
 use Rattle.filing.specs.declared.Slot.{Slot}
 use Rattle.filing.specs.Slots.{places, blank, slotOf}
 use Rattle.account.specs.Places.{used}
-use Rattle.account.specs.Judged.{FoundAt}
+use Rattle.account.specs.inside.Judged.{FoundAt}
 use Rattle.account.proofs.Places.{take-more, used-more}
 
 -- the last of that transaction, or what was found before

@@ -14,7 +14,7 @@ use Rattle.account.specs.declared.Account.{Account}
 use Rattle.account.specs.declared.Answer.the-variants as Answer′
 use Rattle.account.specs.declared.Stepped.{Stepped}
 use Rattle.account.specs.Places.{RuleAccount, accountOf}
-use Rattle.account.specs.Taken.{takenAs}
+use Rattle.account.specs.inside.Taken.{takenAs}
 
 -- entries of a list, with one more
 pub entries-with : (entries : Entries) (entry : Entry) (xs : List RuleEntry) (x : RuleEntry) → entries .count < most → entries ≡ entriesOf xs → entry ≡ entryOf x

@@ -27,8 +27,8 @@ use Rattle.account.specs.declared.outcomes.Outcomes.{Outcomes}
 use Rattle.account.specs.First.{panel}
 use Rattle.account.specs.declared.Answer.the-variants as Answer′
 use Rattle.account.specs.Places.{RuleAccount, used, accountOf}
-use Rattle.account.specs.Taken.{takenAs, listed, Drains}
-use Rattle.account.specs.Known.{Knows, Decides}
+use Rattle.account.specs.inside.Taken.{takenAs, listed, Drains}
+use Rattle.account.specs.inside.Known.{Knows, Decides}
 use Rattle.account.proofs.Places.{count-used}
 use Rattle.account.proofs.Padded.{progress-row, held-row, state-is, account-is}
 use Rattle.account.proofs.Slices.{usedFrom, used-length}

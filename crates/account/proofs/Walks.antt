@@ -4,15 +4,13 @@
 use Prim.Native.Nat.{ℕ, suc, _+_, _*_, _/_, _%_, _^_, _<_, _≤_}
 use mathlib.Core.Path.{_≡_, refl, sym, _∙_, ap}
 use mathlib.Core.Bool.{Bool, true, false, cond}
-use mathlib.Core.List.{List, _∷_, map}
+use mathlib.Core.List.{List, _∷_}
 use native.Mathlib.Omega.{arith}
 use native.Mathlib.Nat.{div-lt-iff-lt-mul, le-div-iff-mul-le}
-use native.Mathlib.Numerals.{add-one}
 use lib.Dec.{eqb}
 use lib.Count.{ones}
-use lib.ListN.{length, getD, take, length-take, drop-of-length-le}
+use lib.ListN.{length, getD}
 use lib.Pow.{pow-pos, shr-shr}
-use lib.Seq.{slice, slice-cons}
 use borrow.Author.Tests.{lt-ltb, le-ltb}
 use Rattle.rule.specs.Rule as rule
 use Rattle.rule.specs.Outcome.{undecidedOf, outcome}
@@ -23,18 +21,15 @@ use Rattle.filing.specs.declared.Decision.{Decision}
 use Rattle.filing.specs.declared.Decision.the-variants.{Undecided, Committed}
 use Rattle.filing.specs.declared.Filed.{Filed}
 use Rattle.filing.specs.declared.Slot.{Slot}
-use Rattle.filing.specs.Slots.{RuleSlot, isUndecided, decisionOf, slotOf}
+use Rattle.filing.specs.Slots.{RuleSlot, isUndecided, decisionOf, blank}
 use Rattle.account.specs.declared.Account.{Account}
 use Rattle.account.specs.declared.Outlook.the-variants as Outlook′
 use Rattle.account.specs.declared.question.Reached.{Reached}
 use Rattle.account.specs.Places.{used, listsOf}
 use Rattle.account.specs.InOrder.{inOrderBy}
 use Rattle.account.specs.Steps.{outlookBy}
-use Rattle.account.specs.Reached.{reached, followed, reachedPast}
-
--- the used places from one on, as the rule has them
-abbrev pub usedFrom : ℕ → ℕ → List Slot → List RuleSlot
-usedFrom at count row = map slotOf (slice at count row)
+use Rattle.account.specs.inside.Reached.{reached, followed, reachedPast}
+use Rattle.account.proofs.Slices.{usedFrom, used-end, used-next}
 
 half : (n u : ℕ) → n / 2 / 2 ^ u ≡ n / 2 ^ suc u
 half n u = let e : 1 + u ≡ suc u = omega arith in shr-shr n 1 u ∙ ap (λ (k : ℕ). n / 2 ^ k) e
@@ -57,21 +52,20 @@ module _ (R : rule.Rule State Event ℕ) (r : Reached) (t : ℕ) (g : Filed) (e 
 
 module _ (R : rule.Rule State Event ℕ) (r : Reached) (count : ℕ) (row : List Slot) (at : ℕ) where
   -- one event further on the way
-  pub reached-next : (d : Slot) → at < count → count ≤ length row
-      → reachedPast R (usedFrom (at + 1) count row) (followed R r (getD row at d) .left) (followed R r (getD row at d) .state) ≡ reachedPast R (usedFrom at count row) (r .left) (r .state)
+  pub reached-next : at < count → count ≤ length row
+      → reachedPast R (usedFrom (at + 1) count row) (followed R r (getD row at blank) .left) (followed R r (getD row at blank) .state) ≡ reachedPast R (usedFrom at count row) (r .left) (r .state)
   unfolding followed
-  reached-next d h k =
-      let x = getD row at d in
-      let next : usedFrom at count row ≡ slotOf x ∷ usedFrom (at + 1) count row = rw (add-one, slice-cons at count row d) in
+  reached-next h k =
+      let x = getD row at blank in
       step R r (x .transaction) (x .filed) (x .event) (usedFrom (at + 1) count row) (x .decision)
-      ∙ ap (λ (l : List RuleSlot). reachedPast R l (r .left) (r .state)) (sym next)
+      ∙ ap (λ (l : List RuleSlot). reachedPast R l (r .left) (r .state)) (sym (used-next at count row h k))
 
   -- the end of the way
   pub reached-end : count ≤ at → r ≡ reachedPast R (usedFrom at count row) (r .left) (r .state)
   unfolding reachedPast
   reached-end h =
       let whole : r .left ≡ r .left / 1 = omega arith in
-      rw (drop-of-length-le (take count row) {i = at} (omega (arith, length-take count row))) (ap (reached (r .state)) whole)
+      rw (used-end at count row h) (ap (reached (r .state)) whole)
 
 -- what is left is 0 exactly if the number is below 2 to the power u
 below : (n u : ℕ) → n / 2 ^ u ≡ 0 → n < 2 ^ u

@@ -5,7 +5,7 @@ use events::State;
 use filing::Slot;
 ghost use mathlib.Core.Path.{_≡_};
 ghost use Rattle.account.specs.First.{panel, outlookOf};
-ghost use Rattle.account.specs.Reached.{followed};
+ghost use Rattle.account.specs.inside.Reached.{followed};
 
 // A state on the way through the events in progress, and what is left of the outcome's number.
 struct Reached {

@@ -7,7 +7,7 @@ use lib.ListN.{length, getD}
 use borrow.Author.Needs.{needs}
 use Rattle.filing.specs.Slots.{places, blank}
 use Rattle.account.specs.Places.{used}
-use Rattle.account.specs.Known.{Knows}
+use Rattle.account.specs.inside.Known.{Knows}
 use Rattle.account.proofs.Places.{as-many, used-more, count-used}
 use Rattle.account.proofs.Known.{knows-few}
 use Rattle.account.proofs.Account.outcomes.Statement.{statement}

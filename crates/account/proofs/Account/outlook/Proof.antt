@@ -7,14 +7,15 @@ use native.Mathlib.Omega.{arith}
 use lib.ListN.{length}
 use borrow.Author.Tests.{not-true, not-false}
 use borrow.Author.Needs.{needs}
-use Rattle.filing.specs.Slots.{places, blank}
+use Rattle.filing.specs.Slots.{places}
 use Rattle.account.specs.declared.question.Reached.{Reached}
 use Rattle.account.specs.Places.{used}
 use Rattle.account.specs.First.{panel, inOrderOf}
-use Rattle.account.specs.Reached.{reachedPast}
+use Rattle.account.specs.inside.Reached.{reachedPast}
 use Rattle.account.proofs.Places.{as-many}
 use Rattle.account.proofs.Clauses.{clauses}
-use Rattle.account.proofs.Walks.{usedFrom, reached-next, reached-end, outlook-order, outlook-none, outlook-there}
+use Rattle.account.proofs.Slices.{usedFrom}
+use Rattle.account.proofs.Walks.{reached-next, reached-end, outlook-order, outlook-none, outlook-there}
 use Rattle.account.proofs.Account.outlook.Statement.{statement}
 use Rattle.account.proofs.Account.outlook.Tie as tie
 
@@ -82,7 +83,7 @@ loop-again c =
     let a = ordered .before .before .args .t1 in
     let v = turn .loop in
     let room : a .progressing ≤ length (a .progress) = omega (arith, many (ordered .before .before), few ordered) in
-    (omega arith, rw (c .past .ensures) (reached-next panel (v .reached) (a .progressing) (a .progress) (v .at) blank (omega arith) room) ∙ v .inv .1)
+    (omega arith, rw (c .past .ensures) (reached-next panel (v .reached) (a .progressing) (a .progress) (v .at) (omega arith) room) ∙ v .inv .1)
 
 returns-2 : tie.Need-returns-2 Inv-loop μ-loop
 returns-2 c =

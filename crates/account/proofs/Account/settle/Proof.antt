@@ -12,7 +12,7 @@ use Rattle.events.specs.declared.State.{State}
 use Rattle.filing.specs.declared.Entries.{Entries}
 use Rattle.filing.specs.Entries.{entryOf}
 use Rattle.filing.specs.Slots.{committedSlot, blank}
-use Rattle.account.specs.Taken.{markedAt}
+use Rattle.account.specs.inside.Taken.{markedAt}
 use Rattle.account.proofs.Places.{as-many}
 use Rattle.account.proofs.Applying.{Applying, applying-none, applying-stays, applying-next, applying-all}
 use Rattle.account.proofs.Account.settle.Statement.{statement}

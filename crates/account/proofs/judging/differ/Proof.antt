@@ -7,7 +7,7 @@ use lib.Dec.{eqb}
 use lib.ListN.{length, getD, take}
 use borrow.Author.Tests.{eq-eqb, ne-eqb}
 use Rattle.rule.specs.Lists.{some-of}
-use Rattle.account.specs.Judged.{allDiffer}
+use Rattle.account.specs.inside.Judged.{allDiffer}
 use Rattle.account.proofs.Differ.{from, from-end, some-there, some-behind, differ-not, differ-behind}
 use Rattle.account.proofs.judging.differ.Statement.{statement}
 use Rattle.account.proofs.judging.differ.Tie as tie

@@ -2,7 +2,7 @@
 -- Assumes nothing.
 use borrow.Author.Tests.{eq-eqb, ne-eqb}
 use borrow.Author.Needs.{needs}
-use Rattle.account.specs.Reached.{followed}
+use Rattle.account.specs.inside.Reached.{followed}
 use Rattle.account.proofs.question.Reached.past.Statement.{statement}
 use Rattle.account.proofs.question.Reached.past.Tie as tie
 

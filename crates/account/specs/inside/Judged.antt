@@ -21,7 +21,7 @@ use Rattle.account.specs.declared.refusing.Asked.{Asked}
 use Rattle.account.specs.declared.refusing.Asked.the-variants.{Request, Commit, Abort}
 use Rattle.account.specs.Places.{used, listsOf}
 use Rattle.account.specs.First.{heldLimit, inOrderOf}
-use Rattle.account.specs.Known.{Knows}
+use Rattle.account.specs.inside.Known.{Knows}
 
 -- the places of both rows
 abbrev pub bothRows : ℕ
