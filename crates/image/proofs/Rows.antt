@@ -8,7 +8,7 @@ use mathlib.Core.Path.{_≡_, refl, ap, sym, _∙_}
 use mathlib.Core.Bool.{Bool, _&&_, and-assoc, and-true}
 use mathlib.Core.List.{List, [], _∷_, _++_, append-nil}
 use lib.ListN.{length, getD, take, drop, set, length-set, length-append, drop-of-length-le}
-use lib.Seq.{sets, drop-cons, drop-drop, take-suc-set, take-all, append-snoc, drop-length}
+use lib.Seq.{sets, drop-cons, drop-drop, take-suc-set, take-all, append-snoc}
 use Rattle.layout.proofs.Stores.{sets-append}
 use Rattle.filing.specs.declared.Slot.{Slot}
 use Rattle.filing.specs.Slots.{blank}

@@ -3,7 +3,7 @@
 use Prim.Native.Nat.{ℕ, _+_, _≤_, _<_}
 use native.Mathlib.Omega.{arith}
 use mathlib.Core.Path.{_≡_, refl, sym, _∙_}
-use mathlib.Core.Bool.{true, false, _&&_}
+use mathlib.Core.Bool.{false, _&&_}
 use borrow.Author.Tests.{le-leb, lt-leb}
 use lib.Dec.{leb, lit≤}
 use Rattle.events.specs.declared.Event.{Event}

@@ -1,9 +1,9 @@
 -- Account and image (docs/REGISTER.md, 15): the one is the other's, and what is no image reads as no account in order.
 -- Assumes nothing.
-use Prim.Native.Nat.{ℕ, _+_, _≤_}
+use Prim.Native.Nat.{ℕ, _+_, _≤_, _<_}
 use mathlib.Core.Path.{_≡_}
 use mathlib.Core.Bool.{true, false}
-use mathlib.Core.List.{List, [], _∷_, _++_}
+use mathlib.Core.List.{List, _++_}
 use lib.ListN.{length, getD, take, drop, replicate}
 use Rattle.events.specs.declared.Event.the-variants.{Open}
 use Rattle.events.specs.declared.Life.the-variants.{New}
@@ -56,7 +56,7 @@ pub record Zeroed : Type 0 where
 -- the 84 words from `from` on are the image, and no other word changes; without room for all of them none does
 pub record Stores (words : List ℕ) (from : ℕ) (a : Account) : Type 0 where
   pub room : from + 84 ≤ length words → storedIn words from a ≡ take from words ++ wordsOf a ++ drop (from + 84) words
-  pub none : (from + 84 ≤ length words → ⊥) → storedIn words from a ≡ words
+  pub none : length words < from + 84 → storedIn words from a ≡ words
 
 pub record ImagesHold : Type 0 where
   pub read : (a : Account) → Kept a → ReadsBack a

@@ -1,6 +1,6 @@
 -- The loops' invariant: what is left of the row, stored from here on, makes up the whole row.
 -- Assumes nothing.
-use Prim.Native.Nat.{_+_, _-_, _≤_}
+use Prim.Native.Nat.{_+_, _-_}
 use native.Mathlib.Omega.{arith}
 use mathlib.Core.Path.{_≡_, _∙_}
 use borrow.Author.Needs.{needs}
@@ -32,7 +32,9 @@ rows start =
 
 -- the way back from the loops to the beginning
 abbrev headed : tie.At-loop Inv-loop μ-loop Inv-loop2 μ-loop2 → tie.Start Inv-loop μ-loop Inv-loop2 μ-loop2
-headed c = c .before .before .before .before .before .before
+headed c =
+    let head = c .before .before .before in
+    head .before .before .before
 
 put-head-requires : tie.Need-put-head-requires Inv-loop μ-loop Inv-loop2 μ-loop2
 put-head-requires c κs = search needs
@@ -57,7 +59,9 @@ put-place-requires : tie.Need-put-place-requires Inv-loop μ-loop Inv-loop2 μ-l
 put-place-requires c κs = omega (arith, rows (headed (c .before .before .before)) .0)
 
 add-at-2 : tie.Need-add-at-2 Inv-loop μ-loop Inv-loop2 μ-loop2
-add-at-2 c = omega (arith, rows (headed (c .before .before .before .before .before .before)) .0)
+add-at-2 c =
+    let at-put = c .before .before in
+    omega (arith, rows (headed (at-put .before .before .before .before)) .0)
 
 add-i : tie.Need-add-i Inv-loop μ-loop Inv-loop2 μ-loop2
 add-i c = search needs
@@ -67,8 +71,9 @@ loop-less c = search needs
 
 loop-again : tie.Need-loop-again Inv-loop μ-loop Inv-loop2 μ-loop2
 loop-again c =
-    let put = c .before .before .put-place in
-    let at-loop = c .before .before .before .before .before .before in
+    let at-put = c .before .before in
+    let put = at-put .put-place in
+    let at-loop = at-put .before .before .before .before in
     let v = at-loop .loop in
     let a = headed at-loop .args in
     storing-goes-on (a .t3 .progress) (at-loop .before .before .before .put-head .last .0) (a .from + headWords) (v .image) (put .last .0) (v .at) (v .i) (v .inv)
@@ -91,7 +96,8 @@ put-place-requires-2 c κs = omega (arith, rows (headed (c .before .before .befo
 
 add-at-3 : tie.Need-add-at-3 Inv-loop μ-loop Inv-loop2 μ-loop2
 add-at-3 c =
-    let at-loop2 = c .before .before .before .before .before .before in
+    let at-put = c .before .before in
+    let at-loop2 = at-put .before .before .before .before in
     omega (arith, rows (headed (at-loop2 .before .before)) .1)
 
 add-i-2 : tie.Need-add-i-2 Inv-loop μ-loop Inv-loop2 μ-loop2
@@ -102,8 +108,9 @@ loop2-less c = search needs
 
 loop2-again : tie.Need-loop2-again Inv-loop μ-loop Inv-loop2 μ-loop2
 loop2-again c =
-    let put = c .before .before .put-place2 in
-    let at-loop2 = c .before .before .before .before .before .before in
+    let at-put = c .before .before in
+    let put = at-put .put-place2 in
+    let at-loop2 = at-put .before .before .before .before in
     let v = at-loop2 .loop2 in
     let at-loop = at-loop2 .before .before in
     let start = headed at-loop in

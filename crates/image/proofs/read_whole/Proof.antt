@@ -1,11 +1,11 @@
 -- The loops' invariant: the first places are read, the others stand from here on, and whether all of them are places is known so far.
 -- Assumes nothing.
-use Prim.Native.Nat.{_+_, _-_, _≤_}
+use Prim.Native.Nat.{_+_, _-_}
 use native.Mathlib.Omega.{arith}
 use mathlib.Core.Path.{_≡_, refl}
 use borrow.Author.Needs.{needs}
 use lib.Dec.{eqb}
-use lib.ListN.{length, getD, replicate}
+use lib.ListN.{getD, replicate}
 use Rattle.filing.specs.Slots.{places, blank}
 use Rattle.image.specs.Words.{headWords, rowWords}
 use Rattle.image.proofs.Rows.{Reading, reading-begins, reading-goes-on, reading-ends}
@@ -75,8 +75,9 @@ loop-again c =
 
 loop2-holds : tie.Need-loop2-holds Inv-loop μ-loop Inv-loop2 μ-loop2
 loop2-holds c =
-    let v = c .before .loop in
-    let a = c .before .before .before .before .before .before .args in
+    let at-loop = c .before in
+    let v = at-loop .loop in
+    let a = at-loop .before .before .before .before .before .args in
     reading-begins places (a .image .now) (v .at) (v .valid) (replicate places blank) refl
 
 read-place-requires-2 : tie.Need-read-place-requires-2 Inv-loop μ-loop Inv-loop2 μ-loop2
