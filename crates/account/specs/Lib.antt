@@ -2,6 +2,12 @@ pub mod Places
 pub mod InOrder
 pub mod Steps
 pub mod First
-pub mod Known
-pub mod Judged
-pub mod Taken
+pub mod Cases
+pub mod Promises
+pub mod Answers
+pub mod Forms
+pub mod Table
+pub mod InOrderExactly
+pub mod InOrderCases
+pub mod Questions
+pub mod inside

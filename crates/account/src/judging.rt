@@ -4,9 +4,9 @@ use crate::outcomes::Outcomes;
 use filing::Slot;
 ghost use mathlib.Core.Path.{_≡_};
 ghost use Prim.Native.Nat.{_≤_};
-ghost use lib.ListN.{take};
+ghost use lib.ListN.{length, take};
 ghost use Rattle.account.specs.First.{inOrderOf};
-ghost use Rattle.account.specs.Judged.{Judges, bothRows, allDiffer};
+ghost use Rattle.account.specs.inside.Judged.{Judges, bothRows, allDiffer};
 
 // What judging finds. The place of a transaction in progress, or held, is past the last place where there is none; its slot is the one found, the blank where none is.
 pub(crate) struct Judged {
@@ -75,7 +75,9 @@ impl Account {
             let slot = self.held[at];
             let waiting = slot.event;
             let decision = slot.decision;
-            in_order = in_order & decision.is_undecided() & ((0 < at) | outcomes.stays_held(progressing, waiting));
+            in_order = in_order
+                & decision.is_undecided()
+                & ((0 < at) | outcomes.stays_held(progressing, waiting));
             transactions[progressing + at] = slot.transaction;
             if transaction == slot.transaction {
                 request = at;
@@ -101,7 +103,7 @@ impl Account {
 
 // Whether the first transactions, so many of them, all differ (6.4).
 fn differ(transactions: &[u32; Account::BOTH], count: usize) -> bool
-    requires { ⌜ count ≤ bothRows ⌝ }
+    requires { ⌜ (count ≤ bothRows) × (length (now transactions) ≡ bothRows) ⌝ }
     ensures { λ r. ⌜ r ≡ allDiffer (take count (now (transactions .entry))) ⌝ }
 {
     let mut at = 0;

@@ -2,6 +2,7 @@
 
 mod judging;
 mod outcomes;
+mod question;
 mod refusing;
 mod steps;
 

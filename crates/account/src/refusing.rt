@@ -3,7 +3,7 @@ use crate::Account;
 use crate::Answer;
 use crate::judging::Judged;
 ghost use mathlib.Core.Path.{_≡_};
-ghost use Rattle.account.specs.Judged.{requestAnswer, commitAnswer, abortAnswer, answerBy};
+ghost use Rattle.account.specs.inside.Judged.{requestAnswer, commitAnswer, abortAnswer, answerBy};
 
 // What is asked of an account.
 pub(crate) enum Asked {

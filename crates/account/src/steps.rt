@@ -18,7 +18,7 @@ ghost use Rattle.filing.specs.Slots.{places};
 ghost use Rattle.filing.specs.Entries.{most};
 ghost use Rattle.account.specs.First.{stepOf};
 ghost use Rattle.account.specs.Steps.{refusedStep};
-ghost use Rattle.account.specs.Taken.{WithoutEvent, WithoutRequest, Settles, Drains};
+ghost use Rattle.account.specs.inside.Taken.{WithoutEvent, WithoutRequest, Settles, Drains};
 
 impl Account {
     // A request: refused, or voted on, and in progress, held or gone by its vote.
@@ -151,7 +151,9 @@ impl Account {
             let slot = next.progress[marked];
             next.progress[marked] = slot.committed();
         }
-        let mut entries = Entries::only(first);
+        let mut entries = Entries::NONE;
+        entries.at[0] = first;
+        entries.count = 1;
         let mut state = self.state;
         let mut ended = 0;
         let mut at = 0;
@@ -173,7 +175,14 @@ impl Account {
         }
         next.state = state;
         next.progressing = self.progressing - ended;
-        next.drain(entries)
+        if 0 < next.holding {
+            return next.drain(entries);
+        }
+        Stepped {
+            account: next,
+            entries,
+            answer: Answer::Taken,
+        }
     }
 
     // The requests held are weighed, the oldest first, until one stays held.
@@ -183,13 +192,6 @@ impl Account {
     {
         let mut next = self;
         let mut entries = written;
-        if self.holding == 0 {
-            return Stepped {
-                account: next,
-                entries,
-                answer: Answer::Taken,
-            };
-        }
         let mut outcomes = self.outcomes();
         let mut voted = 0;
         let mut at = 0;

@@ -11,21 +11,24 @@ use lib.Dec.{eqb, leb, ltb}
 use lib.ListN.{length, getD}
 use Rattle.events.specs.declared.Event.{Event}
 use Rattle.events.specs.declared.Event.the-variants.{Open, Withdraw, Deposit, Close}
-use Rattle.account.specs.declared.Told.{Told}
-use Rattle.account.specs.declared.Told.the-variants.{Accepted, Rejected, Held, Noted, Applied, Dropped}
-use Rattle.account.specs.declared.Entry.{Entry}
+use Rattle.filing.specs.declared.Verdict.{Verdict}
+use Rattle.filing.specs.declared.Verdict.the-variants.{Accepted, Rejected, Held}
+use Rattle.filing.specs.declared.Told.{Told}
+use Rattle.filing.specs.declared.Told.the-variants.{Voted, Noted, Applied, Dropped}
+use Rattle.filing.specs.declared.Entry.{Entry}
 use Rattle.layout.specs.Number.{numberAt}
-use Rattle.layout.specs.Fields.{rowOf, wholeOf, numbersAt}
+use Rattle.layout.specs.Fields.{rowOfKind, wholeOf, numbersAt}
 use Rattle.events.specs.Kinds.{eventKind, amountOf, eventOf}
 use Rattle.layout.specs.Plain.{twoAt, fourAt}
 use Rattle.layout.proofs.Tables.{present}
 use Rattle.events.proofs.Table.{event-is}
 use Rattle.layout.proofs.Plain.{numbers-plain}
+use Rattle.layout.proofs.Heading.{filed-plain}
 use Rattle.entry.specs.declared.EntryReading.{EntryReading}
 use Rattle.entry.specs.declared.EntryReading.the-variants.{Found, Nothing}
-use Rattle.entry.specs.Bytes.{entryRows, kindOf, toldBy, lengthOfTold}
-use Rattle.entry.specs.Answers.{given, eventFits, readOf}
-use Rattle.entry.specs.Plain.{lengthIn, EventStands, Stands, Begins, ReaderFinds, kindLength, noEntry, nothing, ReaderFindsNone}
+use Rattle.entry.specs.Bytes.{entryRows, kindOf, verdictBy, toldBy, lengthOfTold}
+use Rattle.entry.specs.Answers.{saidOfEntry, eventFits, readOf}
+use Rattle.entry.specs.Plain.{vote, lengthIn, EventStands, VoteStands, Stands, Begins, ReaderFinds, kindLength, noEntry, nothing, ReaderFindsNone}
 use Rattle.entry.proofs.Shapes.{shaped, event-fits}
 use Rattle.entry.proofs.Reading.{numberAfter, entryAt, fits-read, read-unknown, read-short, read-account, read-fitting}
 use Rattle.entry.proofs.Inverse.{event-back, taken-of}
@@ -59,9 +62,9 @@ event-read bytes f =
     event-stands bytes (eventAt bytes) (sym (numbers-plain bytes 11 0 .read1) ∙ sym (b .0), sym (numbers-plain bytes 12 0 .read4) ∙ sym (b .1))
 
 -- what the bytes' kind tells stands in them, and is as long as the kind says
-module _ (bytes : List ℕ) (kind : ℕ) (p : 0 < wholeOf (rowOf entryRows kind)) where
+module _ (bytes : List ℕ) (kind : ℕ) (p : 0 < wholeOf (rowOfKind entryRows kind)) where
   stands-by : kind ≡ numberAt bytes 0 1 → fitsAt bytes kind ≡ true → Stands bytes (toldBy kind (eventAt bytes) (numberAfter bytes kind))
-  unfolding rowOf entryRows toldBy
+  unfolding rowOfKind entryRows verdictBy toldBy
   stands-by e f =
       let first : (k : ℕ) → k ≡ numberAt bytes 0 1 → getD bytes 0 0 ≡ k = λ k e. sym (numbers-plain bytes 0 0 .read1) ∙ sym e in
       let two = sym (numbers-plain bytes 16 0 .read2) in
@@ -80,11 +83,11 @@ module _ (bytes : List ℕ) (kind : ℕ) (p : 0 < wholeOf (rowOf entryRows kind)
       )
       p e f
 
-  length-by : wholeOf (rowOf entryRows kind) ≡ lengthIn (toldBy kind (eventAt bytes) (numberAfter bytes kind))
-  unfolding rowOf entryRows toldBy
+  length-by : wholeOf (rowOfKind entryRows kind) ≡ lengthIn (toldBy kind (eventAt bytes) (numberAfter bytes kind))
+  unfolding rowOfKind entryRows toldBy
   length-by =
       present
-      (λ (k : ℕ). wholeOf (rowOf entryRows k) ≡ lengthIn (toldBy k (eventAt bytes) (numberAfter bytes k)))
+      (λ (k : ℕ). wholeOf (rowOfKind entryRows k) ≡ lengthIn (toldBy k (eventAt bytes) (numberAfter bytes k)))
       entryRows kind (refl, (refl, (refl, (refl, (refl, (refl, tt)))))) p
 
 -- what was found stands at the beginning
@@ -95,8 +98,8 @@ found-begins bytes e account whole r =
     let n = numbers-plain bytes in
     let t = taken-of bytes account e whole r in
     let f : fitsAt bytes kind ≡ true = sym (fits-read bytes kind (t .positive)) ∙ t .fitting in
-    let q = read-fitting bytes kind (wholeOf (rowOf entryRows kind)) refl refl (λ z. omega (arith, t .positive)) (t .enough) (t .known) in
-    let same : Found (entryAt bytes kind) (numberAt bytes 5 2) (wholeOf (rowOf entryRows kind)) ≡ Found e account whole = sym (rw f at q) ∙ r in
+    let q = read-fitting bytes kind (wholeOf (rowOfKind entryRows kind)) refl refl (λ z. omega (arith, t .positive)) (t .enough) (t .known) in
+    let same : Found (entryAt bytes kind) (numberAt bytes 5 2) (wholeOf (rowOfKind entryRows kind)) ≡ Found e account whole = sym (rw f at q) ∙ r in
     let entry : entryAt bytes kind ≡ e = cc same in
     let told : toldBy kind (eventAt bytes) (numberAfter bytes kind) ≡ e .told = ap (λ (x : Entry). x .told) entry in
     record {
@@ -104,7 +107,7 @@ found-begins bytes e account whole r =
       transaction = sym (n 1 0 .read4) ∙ ap (λ (x : Entry). x .transaction) entry;
       account′ = sym (n 5 0 .read2) ∙ t .account′;
       known = rw (n 5 0 .read2) at (t .known);
-      second = sym (n 7 0 .read4) ∙ ap (λ (x : Entry). x .second) entry;
+      filed = sym (filed-plain bytes) ∙ ap (λ (x : Entry). x .filed) entry;
       length′ = sym (t .length′) ∙ length-by bytes kind (t .positive) ∙ ap lengthIn told;
       enough = rw (t .length′) at (t .enough);
     }
@@ -122,14 +125,20 @@ event-at bytes e s =
     let a : numberAt bytes 12 4 ≡ amountOf e = numbers-plain bytes 12 0 .read4 ∙ p .1 in
     rw (k, a) (event-is e, event-fits e)
 
+-- a vote by its verdict
+vote-parts : (bytes : List ℕ) (v : Verdict) (n : ℕ) (e : Event) → VoteStands bytes v → eventAt bytes ≡ e → numberAt bytes 16 2 ≡ n
+    → eventFits (numberAt bytes 11 1) (numberAt bytes 12 4) ≡ true → Parts bytes (vote v e n)
+unfolding verdictBy toldBy
+vote-parts bytes Accepted n e s p q f = record { kind = s; told′ = ap₂ (vote Accepted) p q; fitting = f }
+vote-parts bytes Rejected n e s p q f = record { kind = s; told′ = ap₂ (vote Rejected) p q; fitting = f }
+vote-parts bytes Held n e s p q f = record { kind = s; told′ = ap₂ (vote Held) p q; fitting = f }
+
 parts : (bytes : List ℕ) (told : Told) → Stands bytes told → Parts bytes told
 unfolding toldBy
-parts bytes (Accepted e n) s =
-    let v = event-at bytes e (s .1) in record { kind = s .0; told′ = ap₂ Accepted (v .0) (numbers-plain bytes 16 0 .read2 ∙ s .2); fitting = v .1 }
-parts bytes (Rejected e n) s =
-    let v = event-at bytes e (s .1) in record { kind = s .0; told′ = ap₂ Rejected (v .0) (numbers-plain bytes 16 0 .read2 ∙ s .2); fitting = v .1 }
-parts bytes (Held e n) s =
-    let v = event-at bytes e (s .1) in record { kind = s .0; told′ = ap₂ Held (v .0) (numbers-plain bytes 16 0 .read2 ∙ s .2); fitting = v .1 }
+parts bytes (Voted e w) s =
+    let v = event-at bytes e (s .1) in
+    let weighed : numberAt bytes 16 2 ≡ w .weighed = numbers-plain bytes 16 0 .read2 ∙ s .2 in
+    vote-parts bytes (w .verdict) (w .weighed) e (s .0) (v .0) weighed (v .1)
 parts bytes Noted s = record { kind = s; told′ = refl; fitting = refl }
 parts bytes (Applied e n) s =
     let v = event-at bytes e (s .1) in record { kind = s .0; told′ = ap₂ Applied (v .0) (numbers-plain bytes 16 0 .read4 ∙ s .2); fitting = v .1 }
@@ -144,14 +153,14 @@ begins-found bytes e account whole b =
     let q = parts bytes told (b .stands) in
     let w : whole ≡ lengthOfTold told = b .length′ ∙ sym (shaped told .length′) in
     let z : 0 < whole = rw (w, ← shaped told .whole) (omega arith) in
-    let entry : entryAt bytes kind ≡ e = rw (n 1 0 .read4, n 7 0 .read4, b .transaction, b .second, q .told′) in
+    let entry : entryAt bytes kind ≡ e = rw (n 1 0 .read4, filed-plain bytes, b .transaction, b .filed, q .told′) in
     read-fitting bytes kind whole (sym (q .kind) ∙ sym (n 0 0 .read1)) w (λ y. omega arith) (b .enough) (rw (n 5 0 .read2) (b .known))
     ∙ rw (q .fitting, entry, n 5 0 .read2, b .account′)
 
 pub reader-finds : ReaderFinds
 reader-finds bytes e account whole = (
   (λ g. found-begins bytes e account whole (readings-apart (readOf bytes) (Found e account whole) g)),
-  (λ b. ap given (begins-found bytes e account whole b)),
+  (λ b. ap saidOfEntry (begins-found bytes e account whole b)),
 )
 
 -- ---- where nothing is found
@@ -184,7 +193,10 @@ none-by bytes = go (leb 17 kind && leb kind 22) (ltb (length bytes) (kindLength 
     k : kind ≡ numberAt bytes 0 1
     k = sym (numbers-plain bytes 0 0 .read1)
 
-    whole : (a : Bool) → leb 17 kind && leb kind 22 ≡ a → cond a (kindLength kind) 0 ≡ wholeOf (rowOf entryRows kind)
+    some-bytes : 0 < kindLength kind
+    some-bytes = positive (leb kind 19) (eqb kind 20) (eqb kind 21)
+
+    whole : (a : Bool) → leb 17 kind && leb kind 22 ≡ a → cond a (kindLength kind) 0 ≡ wholeOf (rowOfKind entryRows kind)
     whole a p = sym (rw p at (lengths-plain kind))
 
     go : (a b d : Bool) → leb 17 kind && leb kind 22 ≡ a → ltb (length bytes) (kindLength kind) ≡ b → ltb 15 (twoAt bytes 5) ≡ d
@@ -194,10 +206,9 @@ none-by bytes = go (leb 17 kind && leb kind 22) (ltb (length bytes) (kindLength 
     go false b d p q r = rw (read-unknown bytes kind 0 k (whole false p) refl)
     go true true d p q r = rw (read-short bytes kind (kindLength kind) k (whole true p) (ltb-true (length bytes) (kindLength kind) q))
     go true false true p q r =
-        rw (read-account bytes kind (kindLength kind) k (whole true p) (ltb-false (length bytes) (kindLength kind) q) (rw (numbers-plain bytes 5 0 .read2) (ltb-true 15 (twoAt bytes 5) r)))
+        rw (read-account bytes kind (kindLength kind) k (whole true p) (λ n. omega (arith, some-bytes)) (ltb-false (length bytes) (kindLength kind) q) (rw (numbers-plain bytes 5 0 .read2) (ltb-true 15 (twoAt bytes 5) r)))
     go true false false p q r =
-        let z : 0 < kindLength kind = positive (leb kind 19) (eqb kind 20) (eqb kind 21) in
-        let e = read-fitting bytes kind (kindLength kind) k (whole true p) (λ n. omega arith) (ltb-false (length bytes) (kindLength kind) q) (rw (numbers-plain bytes 5 0 .read2) (ltb-false 15 (twoAt bytes 5) r)) in
+        let e = read-fitting bytes kind (kindLength kind) k (whole true p) (λ n. omega (arith, some-bytes)) (ltb-false (length bytes) (kindLength kind) q) (rw (numbers-plain bytes 5 0 .read2) (ltb-false 15 (twoAt bytes 5) r)) in
         let found = Found (entryAt bytes kind) (numberAt bytes 5 2) (kindLength kind) in
         let event = numberAt bytes 11 1 in
         rw (e, ← numbers-plain bytes 11 0 .read1, ← numbers-plain bytes 12 0 .read4)
@@ -209,6 +220,6 @@ reader-finds-none bytes = (
   (λ h. go (readOf bytes) (none-by bytes ∙ h)),
 )
   where
-    go : (x : EntryReading) → isNothing x ≡ true → given x ≡ nothing
+    go : (x : EntryReading) → isNothing x ≡ true → saidOfEntry x ≡ nothing
     go (Found e account whole) h = absurd (false≢true h)
     go Nothing h = refl

@@ -9,29 +9,30 @@ use mathlib.Core.Option.{none, some}
 use lib.Dec.{ltb}
 use lib.ListN.{length, take, drop}
 use lib.Seq.{take-at}
-use Rattle.account.specs.declared.Entry.{Entry}
+use Rattle.filing.specs.declared.Entry.{Entry}
 use Rattle.layout.specs.Answers as Writing′
 use Rattle.entry.specs.Bytes.{bytesOfEntry, bytesOfEntries, listOf}
 use Rattle.entry.specs.Answers.{longestCall, writeOf}
-use Rattle.entry.specs.Forms.{EntryReadingForm, together, WriterLeaves}
+use Rattle.entry.specs.Forms.{EntryReadingForm, EntriesTogether, WriterLeaves}
 
 pub entry-reading-form : EntryReadingForm
 entry-reading-form = record { found = λ e a n. refl; nothing = refl }
 
-same-bytes : (account : ℕ) (es : List Entry) → bytesOfEntries account es ≡ together (map (bytesOfEntry account) es)
+pub entries-together : EntriesTogether
 unfolding bytesOfEntries
-same-bytes account [] = refl
-same-bytes account (e ∷ es) = ap (λ (l : List ℕ). bytesOfEntry account e ++ l) (same-bytes account es)
+entries-together account [] = refl
+entries-together account (e ∷ es) = ap (λ (l : List ℕ). bytesOfEntry account e ++ l) (entries-together account es)
 
 pub writer-leaves : WriterLeaves
 unfolding writeOf
-writer-leaves entries account buffer h = rw (← same-bytes account (take (entries .count) (entries .at))) (go (ltb (length buffer) longestCall) (ltb (length buffer) (length bytes)) h)
+writer-leaves entries account buffer h = rw (← entries-together account (take (entries .count) (entries .at))) (go (ltb (length buffer) longestCall) (ltb (length buffer) (length bytes)) h)
   where
     bytes : List ℕ
     bytes = bytesOfEntries account (listOf entries)
 
-    go : (a b : Bool) → Writing′.given (cond a (Writing′.refusedWith 4 buffer) (cond b (Writing′.refusedWith 4 buffer) (Writing′.wroteOver bytes buffer)) .answer) .refusal ≡ none
-        → take (length bytes) (cond a (Writing′.refusedWith 4 buffer) (cond b (Writing′.refusedWith 4 buffer) (Writing′.wroteOver bytes buffer)) .buffer) ≡ bytes
+    go : (a b : Bool) → Writing′.saidOfWriting (cond a (Writing′.refusedWith 4 buffer) (cond b (Writing′.refusedWith 4 buffer) (Writing′.wroteOver bytes buffer)) .answer) .refusal ≡ none
+        → (Writing′.saidOfWriting (cond a (Writing′.refusedWith 4 buffer) (cond b (Writing′.refusedWith 4 buffer) (Writing′.wroteOver bytes buffer)) .answer) .length′ ≡ length bytes)
+        × (take (length bytes) (cond a (Writing′.refusedWith 4 buffer) (cond b (Writing′.refusedWith 4 buffer) (Writing′.wroteOver bytes buffer)) .buffer) ≡ bytes)
     go true b e = let z : _≡_ {A = ℕ} 0 1 = cc in absurd (omega arith)
     go false true e = let z : _≡_ {A = ℕ} 0 1 = cc in absurd (omega arith)
-    go false false e = take-at bytes (drop (length bytes) buffer) (length bytes) refl
+    go false false e = (refl, take-at bytes (drop (length bytes) buffer) (length bytes) refl)

@@ -3,101 +3,90 @@
 -- Assumes nothing.
 use Prim.Native.Nat.{ℕ, _+_, _≤_, _<_}
 use native.Mathlib.Omega.{arith}
-use mathlib.Core.Path.{_≡_, refl, ap, ap₂, sym, _∙_}
+use mathlib.Core.Path.{_≡_, refl, ap, ap₂, sym, subst, _∙_}
 use mathlib.Core.Bool.{Bool, true, false, cond, _&&_, _||_, not}
 use mathlib.Core.List.{List, [], _++_}
-use mathlib.Core.Option.{Option, none, some}
-use borrow.Author.Tests.{ltb-false, eqb-true, eqb-false, leb-true}
-use lib.Dec.{eqb, leb, ltb}
-use lib.ListN.{length, getD, take, drop, length-append}
-use Rattle.account.specs.declared.Entry.{Entry}
+use mathlib.Core.Option.{Option}
+use borrow.Author.Tests.{eqb-true, eqb-false, leb-true}
+use lib.Dec.{eqb, leb}
+use lib.ListN.{length, getD, drop, length-append}
+use Rattle.filing.specs.declared.Entry.{Entry}
 use Rattle.layout.specs.Number.{numberAt}
-use Rattle.layout.specs.Fields.{Row, rowOf, wholeOf, thenOf, widthsOf, numbersAt, total, lastAccount}
+use Rattle.layout.specs.Fields.{KindRow, rowOfKind, wholeOf, thenOf, widthsOf, numbersAt, lastAccount}
 use Rattle.events.specs.Kinds.{eventKind, amountOf, eventOf}
+use Rattle.layout.specs.Heading.{filedFrom, FiledFits}
 use Rattle.layout.specs.Inverse.{Fit}
 use Rattle.layout.proofs.Numbers.{numberAt-fits}
-use Rattle.layout.proofs.Fields.{fit-heading, numbersAt-fit, numbersAt-written, written-numbersAt}
-use Rattle.layout.proofs.Tables.{present, unknown}
-use Rattle.layout.proofs.Shapes.{found-holds}
+use Rattle.layout.proofs.Fields.{numbersAt-fit, numbersAt-written}
+use Rattle.layout.proofs.Heading.{fit-heading, filed-fits}
+use Rattle.layout.proofs.Tables.{present}
+use Rattle.layout.proofs.Reading.{taken-row, taken-by, read-written}
 use Rattle.entry.specs.declared.EntryReading.{EntryReading}
 use Rattle.entry.specs.declared.EntryReading.the-variants.{Found, Nothing}
-use Rattle.entry.specs.Bytes.{entryRows, kindOf, thenNumbers, numbersOf, bytesOfEntry, lengthOfTold, toldBy, entryOf}
-use Rattle.entry.specs.Answers.{eventFits, thenFits, readNumbers, readKind, readOf}
+use Rattle.entry.specs.Bytes.{entryRows, kindOf, thenNumbers, numbersOf, bytesOfEntry, lengthOfTold, verdictBy, toldBy, entryFrom}
+use Rattle.entry.specs.Answers.{eventFits, thenFits, entryReader, readOf}
 use Rattle.entry.specs.Inverse.{ReadsWritten, WritesRead}
 use Rattle.entry.proofs.Booleans.{both}
 use Rattle.entry.proofs.Shapes.{rows-hold, shaped}
 use Rattle.entry.proofs.Stored.{length-entry}
-use Rattle.entry.proofs.Reading.{by-kind, numbers-row}
+use Rattle.entry.proofs.Reading.{by-kind, every-length}
 
 pub reads-written : ReadsWritten
 unfolding numbersAt bytesOfEntry lengthOfTold
 reads-written account e after p =
     let told = e .told in
-    let found = rowOf entryRows (kindOf told) in
+    let found = rowOfKind entryRows (kindOf told) in
     let bytes = bytesOfEntry account e ++ after in
     let numbers = numbersOf account e in
     let n : length bytes ≡ lengthOfTold told + length after = rw (length-append, length-entry account e) in
     let z : 0 < lengthOfTold told = rw (← shaped told .whole) (omega arith) in
     let fit : Fit (widthsOf found) numbers =
-    fit-heading (kindOf told) (e .transaction) account (e .second) (shaped told .kind) (p .transaction) (p .account′) (p .second)
+    fit-heading (kindOf told) (e .transaction) account (e .filed) (shaped told .kind) (p .transaction) (p .account′) (p .filed)
     (shaped told .fits (p .amount) (p .weighed) (p .balance)) in
     let r : numbersAt (widthsOf found) bytes 0 ≡ numbers = numbersAt-written [] after fit in
     let k : kindOf told ≡ numberAt bytes 0 1 = sym (ap (λ (ns : List ℕ). getD ns 0 0) r) in
-    by-kind bytes (kindOf told) (lengthOfTold told) k refl
-    ∙ numbers-row found bytes numbers z (omega arith) r (p .account′)
+    by-kind bytes (kindOf told) k
+    ∙ taken-row entryReader found bytes numbers z (omega arith) r (p .account′)
     ∙ rw (shaped told .fitting, shaped told .numbers)
 
 -- what an entry that was read says of the row by which it was read
-pub record Taken (found : Option Row) (bytes : List ℕ) (account : ℕ) (e : Entry) (whole : ℕ) : Type 0 where
+pub record Taken (found : Option KindRow) (bytes : List ℕ) (account : ℕ) (e : Entry) (whole : ℕ) : Type 0 where
   pub positive : 0 < wholeOf found
   pub enough : wholeOf found ≤ length bytes
   pub fitting : thenFits (drop 4 (numbersAt (widthsOf found) bytes 0)) ≡ true
   pub known : getD (numbersAt (widthsOf found) bytes 0) 2 0 ≤ lastAccount
   pub account′ : getD (numbersAt (widthsOf found) bytes 0) 2 0 ≡ account
-  pub entry : entryOf (numbersAt (widthsOf found) bytes 0) ≡ e
+  pub entry : entryFrom (numbersAt (widthsOf found) bytes 0) ≡ e
   pub length′ : wholeOf found ≡ whole
 
 nothing-found : (e : Entry) (account whole : ℕ) → Nothing ≡ Found e account whole → ⊥
 nothing-found e account whole n = let z : _≡_ {A = ℕ} 0 1 = cc in omega arith
 
--- an entry comes out where a test for none is false, and a test for one is true
-past : (b : Bool) (next : EntryReading) (e : Entry) (account whole : ℕ) → cond b Nothing next ≡ Found e account whole
-    → (b ≡ false) × (next ≡ Found e account whole)
-past true next e account whole n = absurd (nothing-found e account whole n)
-past false next e account whole n = (refl, n)
-
+-- an entry comes out where a test for one is true
 held : (b : Bool) (next : EntryReading) (e : Entry) (account whole : ℕ) → cond b next Nothing ≡ Found e account whole
     → (b ≡ true) × (next ≡ Found e account whole)
 held true next e account whole n = (refl, n)
 held false next e account whole n = absurd (nothing-found e account whole n)
 
-by-row : (found : Option Row) (bytes : List ℕ) (account : ℕ) (e : Entry) (whole : ℕ) → 0 < wholeOf found → readKind found bytes ≡ Found e account whole
-    → Taken found bytes account e whole
-by-row none bytes account e whole p n = absurd (omega arith)
-by-row (some r) bytes account e whole p n =
-    let numbers = numbersAt (widthsOf (some r)) bytes 0 in
-    let s = past (ltb (length bytes) (r .whole)) (readNumbers (r .whole) numbers) e account whole n in
-    let entry = Found (entryOf numbers) (getD numbers 2 0) (r .whole) in
-    let t = past (ltb lastAccount (getD numbers 2 0)) (cond (thenFits (drop 4 numbers)) entry Nothing) e account whole (s .1) in
-    let u = held (thenFits (drop 4 numbers)) entry e account whole (t .1) in
+pub taken-of : (bytes : List ℕ) (account : ℕ) (e : Entry) (whole : ℕ) → readOf bytes ≡ Found e account whole
+    → Taken (rowOfKind entryRows (numberAt bytes 0 1)) bytes account e whole
+unfolding readOf
+taken-of bytes account e whole n =
+    let kind = numberAt bytes 0 1 in
+    let numbers = numbersAt (widthsOf (rowOfKind entryRows kind)) bytes 0 in
+    let no = nothing-found e account whole in
+    let t = taken-by entryReader (Found e account whole) no no no entryRows kind bytes every-length n in
+    let entry = Found (entryFrom numbers) (getD numbers 2 0) (wholeOf (rowOfKind entryRows kind)) in
+    let u = held (thenFits (drop 4 numbers)) entry e account whole (t .answered) in
     record {
-      positive = p;
-      enough = ltb-false (length bytes) (r .whole) (s .0);
+      positive = t .positive;
+      enough = t .enough;
       fitting = u .0;
-      known = ltb-false lastAccount (getD numbers 2 0) (t .0);
+      known = t .account;
       account′ = cc (u .1);
       entry = cc (u .1);
       length′ = cc (u .1);
     }
-
-pub taken-of : (bytes : List ℕ) (account : ℕ) (e : Entry) (whole : ℕ) → readOf bytes ≡ Found e account whole
-    → Taken (rowOf entryRows (numberAt bytes 0 1)) bytes account e whole
-unfolding readOf entryRows
-taken-of bytes account e whole n =
-    let kind = numberAt bytes 0 1 in
-    let p : wholeOf (rowOf entryRows kind) ≡ 0 → ⊥ =
-    λ z. nothing-found e account whole (rw (unknown entryRows kind (omega arith) z) at n) in
-    by-row (rowOf entryRows kind) bytes account e whole (omega arith) n
 
 -- an event that fits is the one of its kind and amount
 pub event-back : (kind amount : ℕ) → eventFits kind amount ≡ true → (eventKind (eventOf kind amount) ≡ kind) × (amountOf (eventOf kind amount) ≡ amount)
@@ -121,16 +110,16 @@ event-back kind amount f = go (eqb kind 1) (eqb kind 2) (eqb kind 3) refl refl r
         rw (four, zero) (refl, refl)
 
 -- the numbers that were read are those of the entry
-numbers-back : (bytes : List ℕ) (kind : ℕ) → 0 < wholeOf (rowOf entryRows kind) → kind ≡ numberAt bytes 0 1
-    → thenFits (numbersAt (thenOf (rowOf entryRows kind)) bytes 11) ≡ true
-    → numbersOf (numberAt bytes 5 2) (entryOf (numbersAt (widthsOf (rowOf entryRows kind)) bytes 0)) ≡ numbersAt (widthsOf (rowOf entryRows kind)) bytes 0
-unfolding rowOf entryRows numbersAt toldBy
+numbers-back : (bytes : List ℕ) (kind : ℕ) → 0 < wholeOf (rowOfKind entryRows kind) → kind ≡ numberAt bytes 0 1
+    → thenFits (numbersAt (thenOf (rowOfKind entryRows kind)) bytes 11) ≡ true
+    → numbersOf (numberAt bytes 5 2) (entryFrom (numbersAt (widthsOf (rowOfKind entryRows kind)) bytes 0)) ≡ numbersAt (widthsOf (rowOfKind entryRows kind)) bytes 0
+unfolding rowOfKind entryRows numbersAt verdictBy toldBy
 numbers-back bytes kind p =
     let k = numberAt bytes 11 1 in
     let a = numberAt bytes 12 4 in
     present
-    (λ (k : ℕ). k ≡ numberAt bytes 0 1 → thenFits (numbersAt (thenOf (rowOf entryRows k)) bytes 11) ≡ true
-    → numbersOf (numberAt bytes 5 2) (entryOf (numbersAt (widthsOf (rowOf entryRows k)) bytes 0)) ≡ numbersAt (widthsOf (rowOf entryRows k)) bytes 0)
+    (λ (k : ℕ). k ≡ numberAt bytes 0 1 → thenFits (numbersAt (thenOf (rowOfKind entryRows k)) bytes 11) ≡ true
+    → numbersOf (numberAt bytes 5 2) (entryFrom (numbersAt (widthsOf (rowOfKind entryRows k)) bytes 0)) ≡ numbersAt (widthsOf (rowOfKind entryRows k)) bytes 0)
     entryRows kind (
       (λ e f. rw (← e, event-back k a f .0, event-back k a f .1)),
       (
@@ -153,25 +142,22 @@ pub writes-read : WritesRead
 unfolding numbersAt bytesOfEntry lengthOfTold
 writes-read bytes account e whole b n =
     let kind = numberAt bytes 0 1 in
-    let found = rowOf entryRows kind in
+    let found = rowOfKind entryRows kind in
     let t = taken-of bytes account e whole n in
     let numbers : numbersOf account e ≡ numbersAt (widthsOf found) bytes 0 =
     sym (ap₂ numbersOf (t .account′) (t .entry)) ∙ numbers-back bytes kind (t .positive) refl (t .fitting) in
     let number : (i : ℕ) → getD (numbersOf account e) i 0 ≡ getD (numbersAt (widthsOf found) bytes 0) i 0 = λ i. ap (λ (ns : List ℕ). getD ns i 0) numbers in
-    let sum : total (widthsOf found) ≡ wholeOf found = found-holds entryRows kind rows-hold (t .positive) .sum in
     let k : kindOf (e .told) ≡ kind = number 0 in
     let then : thenNumbers (e .told) ≡ numbersAt (thenOf found) bytes 11 = ap (λ (ns : List ℕ). drop 4 ns) numbers in
     let bounds = shaped (e .told) .bounds (rw (then, k) (numbersAt-fit (thenOf found) bytes 11 b)) in
     record {
-      bytes′ =
-          rw (numbers, k)
-          (sym (written-numbersAt (widthsOf found) bytes 0 (omega (arith, t .enough)) b ∙ ap (λ (n : ℕ). take n bytes) (sum ∙ t .length′)));
+      bytes′ = rw (numbers, k) (read-written entryRows kind rows-hold (t .positive) bytes whole b (t .enough) (t .length′));
       length′ = rw k (sym (t .length′));
       writable =
           record {
             transaction = rw (number 1) (numberAt-fits 4 1 bytes b);
             account′ = rw (number 2) (t .known);
-            second = rw (number 3) (numberAt-fits 4 7 bytes b);
+            filed = subst FiledFits (sym (ap filedFrom numbers)) (filed-fits bytes b);
             amount = bounds .0;
             weighed = bounds .1;
             balance = bounds .2;

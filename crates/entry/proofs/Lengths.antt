@@ -6,15 +6,15 @@ use mathlib.Core.Path.{_≡_, refl}
 use mathlib.Core.Bool.{Bool, true, false}
 use borrow.Author.Tests.{eqb-true, eqb-false}
 use lib.Dec.{eqb}
-use Rattle.layout.specs.Fields.{rowOf, wholeOf}
+use Rattle.layout.specs.Fields.{rowOfKind, wholeOf}
 use Rattle.layout.proofs.Tables.{absent}
 use Rattle.entry.specs.Bytes.{entryRows}
 
-pub vote-length : (kind : ℕ) → 17 ≤ kind → kind ≤ 19 → wholeOf (rowOf entryRows kind) ≡ 18
-unfolding rowOf entryRows
+pub vote-length : (kind : ℕ) → 17 ≤ kind → kind ≤ 19 → wholeOf (rowOfKind entryRows kind) ≡ 18
+unfolding rowOfKind entryRows
 vote-length kind h k = go (eqb kind 17) (eqb kind 18) refl refl
   where
-    go : (a b : Bool) → eqb kind 17 ≡ a → eqb kind 18 ≡ b → wholeOf (rowOf entryRows kind) ≡ 18
+    go : (a b : Bool) → eqb kind 17 ≡ a → eqb kind 18 ≡ b → wholeOf (rowOfKind entryRows kind) ≡ 18
     go true b p q = rw (eqb-true kind 17 p)
     go false true p q = rw (eqb-true kind 18 q)
     go false false p q =
@@ -23,10 +23,10 @@ vote-length kind h k = go (eqb kind 17) (eqb kind 18) refl refl
         let e : kind ≡ 19 = omega arith in
         rw e
 
-pub below-kinds : (kind : ℕ) → kind < 17 → wholeOf (rowOf entryRows kind) ≡ 0
+pub below-kinds : (kind : ℕ) → kind < 17 → wholeOf (rowOfKind entryRows kind) ≡ 0
 unfolding entryRows
 below-kinds kind h = rw (absent entryRows kind (omega arith))
 
-pub above-kinds : (kind : ℕ) → 19 < kind → (kind ≡ 20 → ⊥) → (kind ≡ 21 → ⊥) → (kind ≡ 22 → ⊥) → wholeOf (rowOf entryRows kind) ≡ 0
+pub above-kinds : (kind : ℕ) → 19 < kind → (kind ≡ 20 → ⊥) → (kind ≡ 21 → ⊥) → (kind ≡ 22 → ⊥) → wholeOf (rowOfKind entryRows kind) ≡ 0
 unfolding entryRows
 above-kinds kind h n m o = rw (absent entryRows kind (omega arith))

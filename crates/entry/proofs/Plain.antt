@@ -12,9 +12,9 @@ use lib.ListN.{length, take, drop}
 use lib.Seq.{drop-at}
 use Rattle.events.specs.declared.Event.{Event}
 use Rattle.events.specs.declared.Event.the-variants.{Open, Withdraw, Deposit, Close}
-use Rattle.account.specs.declared.Entry.{Entry}
+use Rattle.filing.specs.declared.Entry.{Entry}
 use Rattle.layout.specs.Number.{bytesOf}
-use Rattle.layout.specs.Fields.{written, rowOf, wholeOf}
+use Rattle.layout.specs.Fields.{written, rowOfKind, wholeOf}
 use Rattle.events.specs.Kinds.{eventKind, amountOf}
 use Rattle.layout.specs.Answers.{wroteOver}
 use Rattle.layout.proofs.Plain.{numbers-plain}
@@ -33,8 +33,8 @@ event-bytes (Deposit a) rest = rw (numbers-plain [] 0 3 .bytes1, numbers-plain [
 event-bytes Close rest = rw (numbers-plain [] 0 4 .bytes1, numbers-plain [] 0 0 .bytes4)
 
 pub entries-plain : EntriesPlain
-unfolding bytesOfEntry lengthOfTold rowOf entryRows written
-entries-plain t a s e n =
+unfolding bytesOfEntry lengthOfTold rowOfKind entryRows written
+entries-plain t a g e n =
     let p = numbers-plain [] 0 in
     record {
       bytes =
@@ -51,7 +51,7 @@ entries-plain t a s e n =
             p 22 .bytes1,
             p t .bytes4,
             p a .bytes2,
-            p s .bytes4,
+            p (g .second) .bytes4,
             p n .bytes2,
             p n .bytes4,
           );
@@ -63,11 +63,11 @@ entries-plain t a s e n =
 
 -- the length of a kind
 pub lengths-plain : LengthsPlain
-unfolding rowOf entryRows
+unfolding rowOfKind entryRows
 lengths-plain kind = go (leb 17 kind) (leb kind 22) (leb kind 19) (eqb kind 20) (eqb kind 21) refl refl refl refl refl
   where
     go : (a b c d f : Bool) → leb 17 kind ≡ a → leb kind 22 ≡ b → leb kind 19 ≡ c → eqb kind 20 ≡ d → eqb kind 21 ≡ f
-        → wholeOf (rowOf entryRows kind) ≡ cond (a && b) (cond c 18 (cond d 11 (cond f 20 16))) 0
+        → wholeOf (rowOfKind entryRows kind) ≡ cond (a && b) (cond c 18 (cond d 11 (cond f 20 16))) 0
     go false b c d f p q r s t = below-kinds kind (leb-false 17 kind p)
     go true false c d f p q r s t = let h : 22 < kind = leb-false kind 22 q in above-kinds kind (omega arith) (omega arith) (omega arith) (omega arith)
     go true true true d f p q r s t = vote-length kind (leb-true 17 kind p) (leb-true kind 19 r)

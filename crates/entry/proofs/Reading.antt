@@ -5,20 +5,22 @@ use native.Mathlib.Omega.{arith}
 use mathlib.Core.Path.{_≡_, refl, sym, _∙_}
 use mathlib.Core.Bool.{true, cond, _||_}
 use mathlib.Core.List.{List, map}
-use mathlib.Core.Option.{Option, none, some}
-use borrow.Author.Tests.{lt-ltb, le-ltb}
 use lib.Dec.{eqb}
-use lib.ListN.{length, getD, drop}
-use Rattle.account.specs.declared.Entry.{Entry}
+use lib.ListN.{length, getD}
+use Rattle.filing.specs.declared.Entry.{Entry}
+use Rattle.layout.specs.declared.Shape.{Shape}
 use Rattle.layout.specs.Number.{numberAt}
-use Rattle.layout.specs.Fields.{Row, rowOf, wholeOf, thenOf, widthsOf, numbersAt, lastAccount}
+use Rattle.layout.specs.Fields.{KindRow, rowOfKind, wholeOf, thenOf, widthsOf, numbersAt, lastAccount}
 use Rattle.layout.specs.Shapes.{bytesIn, shapeOf}
+use Rattle.layout.specs.Reading.{readRow}
 use Rattle.events.specs.Kinds.{eventOf}
-use Rattle.layout.proofs.Tables.{present, unknown}
-use Rattle.layout.proofs.Shapes.{found-holds, padded-read, padded-at}
+use Rattle.layout.proofs.Tables.{Each, present, unknown}
+use Rattle.layout.proofs.Heading.{filedAt}
+use Rattle.layout.proofs.Shapes.{shape-whole}
+use Rattle.layout.proofs.Reading.{short-row, elsewhere-row, taken-row, shape-unknown, shape-short, row-at, shape-elsewhere, shape-taken}
 use Rattle.entry.specs.declared.EntryReading.the-variants.{Found, Nothing}
-use Rattle.entry.specs.Bytes.{entryRows, toldBy, entryBy, entryOf}
-use Rattle.entry.specs.Answers.{eventFits, thenFits, readKind, readOf}
+use Rattle.entry.specs.Bytes.{entryRows, toldBy, entryBy, entryFrom}
+use Rattle.entry.specs.Answers.{eventFits, thenFits, entryReader, readOf}
 use Rattle.entry.proofs.Shapes.{rows-hold}
 
 -- the entry that the bytes hold by its places: the number that follows the event, of the width that the kind gives it,
@@ -30,103 +32,90 @@ abbrev pub entryAt : (bytes : List ℕ) (kind : ℕ) → Entry
 entryAt bytes kind =
     record {
       transaction = numberAt bytes 1 4;
-      second = numberAt bytes 7 4;
+      filed = filedAt bytes;
       told = toldBy kind (eventOf (numberAt bytes 11 1) (numberAt bytes 12 4)) (numberAfter bytes kind);
     }
 
--- the ways on from a row that was found
-short-row : (found : Option Row) (bytes : List ℕ) → length bytes < wholeOf found → readKind found bytes ≡ Nothing
-short-row none bytes h = refl
-short-row (some r) bytes h = rw (lt-ltb (length bytes) (r .whole) h)
-
-account-row : (found : Option Row) (bytes : List ℕ) → wholeOf found ≤ length bytes → lastAccount < numberAt bytes 5 2 → readKind found bytes ≡ Nothing
-unfolding numbersAt
-account-row none bytes h a = refl
-account-row (some r) bytes h a = rw (le-ltb (length bytes) (r .whole) h, lt-ltb lastAccount (numberAt bytes 5 2) a)
-
--- an entry whose numbers are these, if they fit
-pub numbers-row : (found : Option Row) (bytes numbers : List ℕ) → 0 < wholeOf found → wholeOf found ≤ length bytes → numbersAt (widthsOf found) bytes 0 ≡ numbers
-    → getD numbers 2 0 ≤ lastAccount → readKind found bytes ≡ cond (thenFits (drop 4 numbers)) (Found (entryOf numbers) (getD numbers 2 0) (wholeOf found)) Nothing
-numbers-row none bytes numbers p h e a = absurd (omega arith)
-numbers-row (some r) bytes numbers p h e a = rw (e, le-ltb (length bytes) (r .whole) h, le-ltb lastAccount (getD numbers 2 0) a)
-
 -- what follows the heading, by its places
-module _ (bytes : List ℕ) (kind : ℕ) (p : 0 < wholeOf (rowOf entryRows kind)) where
-  pub fits-read : thenFits (numbersAt (thenOf (rowOf entryRows kind)) bytes 11) ≡ cond (eqb kind 20) true (eventFits (numberAt bytes 11 1) (numberAt bytes 12 4))
-  unfolding rowOf entryRows numbersAt
+module _ (bytes : List ℕ) (kind : ℕ) (p : 0 < wholeOf (rowOfKind entryRows kind)) where
+  pub fits-read : thenFits (numbersAt (thenOf (rowOfKind entryRows kind)) bytes 11) ≡ cond (eqb kind 20) true (eventFits (numberAt bytes 11 1) (numberAt bytes 12 4))
+  unfolding rowOfKind entryRows numbersAt
   fits-read =
       present
-      (λ (k : ℕ). thenFits (numbersAt (thenOf (rowOf entryRows k)) bytes 11) ≡ cond (eqb k 20) true (eventFits (numberAt bytes 11 1) (numberAt bytes 12 4)))
+      (λ (k : ℕ). thenFits (numbersAt (thenOf (rowOfKind entryRows k)) bytes 11) ≡ cond (eqb k 20) true (eventFits (numberAt bytes 11 1) (numberAt bytes 12 4)))
       entryRows kind (refl, (refl, (refl, (refl, (refl, (refl, tt)))))) p
 
   -- the same by the row's widths: it has no event where the width after the heading is 0
-  fits-row : thenFits (numbersAt (thenOf (rowOf entryRows kind)) bytes 11)
-      ≡ (eqb (getD (shapeOf (rowOf entryRows kind) .widths) 4 0) 0
-      || eventFits (getD (numbersAt (widthsOf (rowOf entryRows kind)) bytes 0) 4 0) (getD (numbersAt (widthsOf (rowOf entryRows kind)) bytes 0) 5 0))
-  unfolding rowOf entryRows numbersAt
+  fits-row : thenFits (numbersAt (thenOf (rowOfKind entryRows kind)) bytes 11)
+      ≡ (eqb (getD (shapeOf (rowOfKind entryRows kind) .widths) 4 0) 0
+      || eventFits (getD (numbersAt (widthsOf (rowOfKind entryRows kind)) bytes 0) 4 0) (getD (numbersAt (widthsOf (rowOfKind entryRows kind)) bytes 0) 5 0))
+  unfolding rowOfKind entryRows numbersAt
   fits-row =
       present
-      (λ (k : ℕ). thenFits (numbersAt (thenOf (rowOf entryRows k)) bytes 11)
-      ≡ (eqb (getD (shapeOf (rowOf entryRows k) .widths) 4 0) 0
-      || eventFits (getD (numbersAt (widthsOf (rowOf entryRows k)) bytes 0) 4 0) (getD (numbersAt (widthsOf (rowOf entryRows k)) bytes 0) 5 0)))
+      (λ (k : ℕ). thenFits (numbersAt (thenOf (rowOfKind entryRows k)) bytes 11)
+      ≡ (eqb (getD (shapeOf (rowOfKind entryRows k) .widths) 4 0) 0
+      || eventFits (getD (numbersAt (widthsOf (rowOfKind entryRows k)) bytes 0) 4 0) (getD (numbersAt (widthsOf (rowOfKind entryRows k)) bytes 0) 5 0)))
       entryRows kind (refl, (refl, (refl, (refl, (refl, (refl, tt)))))) p
 
-  told-read : kind ≡ numberAt bytes 0 1 → entryOf (numbersAt (widthsOf (rowOf entryRows kind)) bytes 0) ≡ entryAt bytes kind
-  unfolding rowOf entryRows numbersAt toldBy
+  told-read : kind ≡ numberAt bytes 0 1 → entryFrom (numbersAt (widthsOf (rowOfKind entryRows kind)) bytes 0) ≡ entryAt bytes kind
+  unfolding rowOfKind entryRows numbersAt toldBy
   told-read k =
       present
-      (λ (k : ℕ). k ≡ numberAt bytes 0 1 → entryOf (numbersAt (widthsOf (rowOf entryRows k)) bytes 0) ≡ entryAt bytes k)
+      (λ (k : ℕ). k ≡ numberAt bytes 0 1 → entryFrom (numbersAt (widthsOf (rowOfKind entryRows k)) bytes 0) ≡ entryAt bytes k)
       entryRows kind ((λ e. rw (← e)), ((λ e. rw (← e)), ((λ e. rw (← e)), ((λ e. rw (← e)), ((λ e. rw (← e)), ((λ e. rw (← e)), tt)))))) p k
 
-module _ (bytes : List ℕ) (kind whole : ℕ) (k : kind ≡ numberAt bytes 0 1) (w : whole ≡ wholeOf (rowOf entryRows kind)) where
-  pub by-kind : readOf bytes ≡ readKind (rowOf entryRows kind) bytes
-  unfolding readOf
-  by-kind = rw k
+pub by-kind : (bytes : List ℕ) (kind : ℕ) → kind ≡ numberAt bytes 0 1 → readOf bytes ≡ readRow entryReader (rowOfKind entryRows kind) bytes
+unfolding readOf
+by-kind bytes kind k = rw k
 
+pub every-length : Each (λ (r : KindRow). 0 < r .whole) entryRows
+unfolding entryRows
+every-length = omega arith
+
+-- by the row of the kind
+module _ (bytes : List ℕ) (kind whole : ℕ) (k : kind ≡ numberAt bytes 0 1) (w : whole ≡ wholeOf (rowOfKind entryRows kind)) where
   pub read-unknown : whole ≡ 0 → readOf bytes ≡ Nothing
-  unfolding entryRows
-  read-unknown z = by-kind ∙ rw (unknown entryRows kind (omega arith) (sym w ∙ z))
+  read-unknown z = by-kind bytes kind k ∙ rw (unknown entryRows kind every-length (sym w ∙ z))
 
   pub read-short : length bytes < whole → readOf bytes ≡ Nothing
-  read-short h = by-kind ∙ short-row (rowOf entryRows kind) bytes (rw w at h)
+  read-short h = by-kind bytes kind k ∙ short-row entryReader (rowOfKind entryRows kind) bytes (rw w at h)
 
-  pub read-account : whole ≤ length bytes → lastAccount < numberAt bytes 5 2 → readOf bytes ≡ Nothing
-  read-account h a = by-kind ∙ account-row (rowOf entryRows kind) bytes (rw w at h) a
-
-  pub read-fitting : (whole ≡ 0 → ⊥) → whole ≤ length bytes → numberAt bytes 5 2 ≤ lastAccount
-      → readOf bytes
-      ≡ cond (cond (eqb kind 20) true (eventFits (numberAt bytes 11 1) (numberAt bytes 12 4))) (Found (entryAt bytes kind) (numberAt bytes 5 2) whole) Nothing
-  unfolding numbersAt
-  read-fitting z h a =
-      let found = rowOf entryRows kind in
-      let p : 0 < wholeOf found = rw (← w) (omega arith) in
-      by-kind
-      ∙ numbers-row found bytes (numbersAt (widthsOf found) bytes 0) p (rw w at h) refl a
-      ∙ rw (fits-read bytes kind p, told-read bytes kind p k, w)
-
-  -- the same by the numbers that the code reads: those of the row, and 0 in the places behind them
-  module _ (z : whole ≡ 0 → ⊥) (h : whole ≤ length bytes) (numbers : List ℕ) (n : numbers ≡ numbersAt (map bytesIn (shapeOf (rowOf entryRows kind) .widths)) bytes 0) where
-    positive : 0 < wholeOf (rowOf entryRows kind)
+  module _ (z : whole ≡ 0 → ⊥) (h : whole ≤ length bytes) where
+    positive : 0 < wholeOf (rowOfKind entryRows kind)
     positive = rw (← w) (omega arith)
 
-    row-at : (i : ℕ) → getD numbers i 0 ≡ getD (numbersAt (widthsOf (rowOf entryRows kind)) bytes 0) i 0
-    row-at i =
-        let found = rowOf entryRows kind in
-        rw (n, found-holds entryRows kind rows-hold positive .widths, padded-read (widthsOf found) bytes 0) (padded-at (numbersAt (widthsOf found) bytes 0) i)
+    pub read-account : lastAccount < numberAt bytes 5 2 → readOf bytes ≡ Nothing
+    read-account a = by-kind bytes kind k ∙ elsewhere-row entryReader (rowOfKind entryRows kind) bytes positive (rw w at h) a
 
-    pub read-last : lastAccount < getD numbers 2 0 → readOf bytes ≡ Nothing
-    unfolding numbersAt
-    read-last a = read-account h (rw (row-at 2) at a)
-
-    pub read-row : getD numbers 2 0 ≤ lastAccount
+    pub read-fitting : numberAt bytes 5 2 ≤ lastAccount
         → readOf bytes
-        ≡ cond (eqb (getD (shapeOf (rowOf entryRows kind) .widths) 4 0) 0 || eventFits (getD numbers 4 0) (getD numbers 5 0))
-        (Found (entryBy kind numbers) (getD numbers 2 0) whole)
-        Nothing
+        ≡ cond (cond (eqb kind 20) true (eventFits (numberAt bytes 11 1) (numberAt bytes 12 4))) (Found (entryAt bytes kind) (numberAt bytes 5 2) whole) Nothing
     unfolding numbersAt
-    read-row a =
-        let found = rowOf entryRows kind in
-        let known : getD (numbersAt (widthsOf found) bytes 0) 2 0 ≤ lastAccount = rw (row-at 2) at a in
-        by-kind
-        ∙ numbers-row found bytes (numbersAt (widthsOf found) bytes 0) positive (rw w at h) refl known
-        ∙ rw (row-at 1, row-at 2, row-at 3, row-at 4, row-at 5, row-at 6, fits-row bytes kind positive, ← k, w)
+    read-fitting a =
+        let found = rowOfKind entryRows kind in
+        by-kind bytes kind k
+        ∙ taken-row entryReader found bytes (numbersAt (widthsOf found) bytes 0) positive (rw w at h) refl a
+        ∙ rw (fits-read bytes kind positive, told-read bytes kind positive k, w)
+
+-- by the shape and the numbers that the code reads
+module _ {kind : ℕ} {shape : Shape} (bytes : List ℕ) (k : kind ≡ numberAt bytes 0 1) (s : shape ≡ shapeOf (rowOfKind entryRows kind)) where
+  pub code-unknown : shape .whole ≡ 0 → readOf bytes ≡ Nothing
+  code-unknown z = by-kind bytes kind k ∙ shape-unknown entryRows kind bytes s entryReader every-length z
+
+  pub code-short : length bytes < shape .whole → readOf bytes ≡ Nothing
+  code-short h = by-kind bytes kind k ∙ shape-short entryRows kind bytes s entryReader h
+
+  module _ (p : shape .whole ≡ 0 → ⊥) (h : shape .whole ≤ length bytes) {numbers : List ℕ} (n : numbers ≡ numbersAt (map bytesIn (shape .widths)) bytes 0) where
+    pub code-elsewhere : lastAccount < getD numbers 2 0 → readOf bytes ≡ Nothing
+    code-elsewhere a = by-kind bytes kind k ∙ shape-elsewhere entryRows kind bytes s p rows-hold n entryReader h a
+
+    pub code-fitting : getD numbers 2 0 ≤ lastAccount
+        → readOf bytes
+        ≡ cond (eqb (getD (shape .widths) 4 0) 0 || eventFits (getD numbers 4 0) (getD numbers 5 0)) (Found (entryBy kind numbers) (getD numbers 2 0) (shape .whole)) Nothing
+    unfolding numbersAt
+    code-fitting a =
+        let at = row-at entryRows kind bytes s p rows-hold n in
+        let positive : 0 < wholeOf (rowOfKind entryRows kind) = rw (← shape-whole (rowOfKind entryRows kind), ← s) (omega arith) in
+        by-kind bytes kind k
+        ∙ shape-taken entryRows kind bytes s p rows-hold n entryReader h a
+        ∙ rw (at 1, at 2, at 3, at 4, at 5, at 6, fits-row bytes kind positive, ← s, ← k)

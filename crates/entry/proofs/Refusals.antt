@@ -9,16 +9,16 @@ use native.Mathlib.Omega.{arith}
 use borrow.Author.Tests.{ltb-false}
 use lib.Dec.{ltb}
 use lib.ListN.{length}
-use Rattle.layout.specs.Answers.{given, wroteOver, refusedWith}
+use Rattle.layout.specs.Answers.{saidOfWriting, wroteOver, refusedWith}
 use Rattle.layout.proofs.Answers.{wrote-stays, cond-stays}
 use Rattle.entry.specs.declared.EntryReading.the-variants.{Found, Nothing}
 use Rattle.entry.specs.Bytes.{bytesOfEntries, listOf}
-use Rattle.entry.specs.Answers.{longestCall, writeOf, Given}
+use Rattle.entry.specs.Answers.{longestCall, writeOf, SaidOfEntry}
 use Rattle.entry.specs.Refusals.{WriterRefuses, WriterStays, ReadingsApart}
 use Rattle.entry.proofs.Plain.{length-bytes}
 
 -- a writer that refuses with 4 by a test
-pub refuses : (b : Bool) (bytes buffer : List ℕ) → given (cond b (refusedWith 4 buffer) (wroteOver bytes buffer) .answer) .refusal ≡ cond b (some 4) none
+pub refuses : (b : Bool) (bytes buffer : List ℕ) → saidOfWriting (cond b (refusedWith 4 buffer) (wroteOver bytes buffer) .answer) .refusal ≡ cond b (some 4) none
 refuses true bytes buffer = refl
 refuses false bytes buffer = refl
 
@@ -30,7 +30,7 @@ writer-refuses entries account buffer = rw (← length-bytes account (listOf ent
     bytes = bytesOfEntries account (listOf entries)
 
     go : (b : Bool)
-        → given (cond b (refusedWith 4 buffer) (cond (ltb (length buffer) (length bytes)) (refusedWith 4 buffer) (wroteOver bytes buffer)) .answer) .refusal
+        → saidOfWriting (cond b (refusedWith 4 buffer) (cond (ltb (length buffer) (length bytes)) (refusedWith 4 buffer) (wroteOver bytes buffer)) .answer) .refusal
         ≡ cond b (some 4) (cond (ltb (length buffer) (length bytes)) (some 4) none)
     go true = refl
     go false = refuses (ltb (length buffer) (length bytes)) bytes buffer
@@ -45,10 +45,10 @@ writer-stays entries account buffer =
 
 pub readings-apart : ReadingsApart
 readings-apart (Found e a n) (Found f b m) q =
-    let x = ap (λ (g : Given). g .entry) q in
-    let y = ap (λ (g : Given). g .account) q in
-    let z = ap (λ (g : Given). g .length′) q in
+    let x = ap (λ (g : SaidOfEntry). g .entry) q in
+    let y = ap (λ (g : SaidOfEntry). g .account) q in
+    let z = ap (λ (g : SaidOfEntry). g .length′) q in
     cc
-readings-apart (Found e a n) Nothing q = let x = ap (λ (g : Given). g .entry) q in let z : _≡_ {A = ℕ} 0 1 = cc in absurd (omega arith)
-readings-apart Nothing (Found e a n) q = let x = ap (λ (g : Given). g .entry) q in let z : _≡_ {A = ℕ} 0 1 = cc in absurd (omega arith)
+readings-apart (Found e a n) Nothing q = let x = ap (λ (g : SaidOfEntry). g .entry) q in let z : _≡_ {A = ℕ} 0 1 = cc in absurd (omega arith)
+readings-apart Nothing (Found e a n) q = let x = ap (λ (g : SaidOfEntry). g .entry) q in let z : _≡_ {A = ℕ} 0 1 = cc in absurd (omega arith)
 readings-apart Nothing Nothing q = refl

@@ -1,24 +1,30 @@
--- What the table says of each entry, by the six cases of what it tells: the only place where they are gone through for the layout. Of its rows it is
+-- What the table says of each entry, by the cases of what it tells, a vote by its verdict: the only place where they are gone through for the layout. Of its rows it is
 -- computed that their widths make up their lengths.
 -- Assumes nothing.
 use Prim.Native.Nat.{ℕ, _<_, _^_}
 use mathlib.Core.Path.{_≡_, refl}
 use mathlib.Core.Bool.{true}
 use lib.Dec.{lit<}
-use mathlib.Core.List.{_∷_}
-use lib.ListN.{length, getD, replicate}
+use mathlib.Core.List.{[], _∷_, _++_}
+use mathlib.Core.Option.{some}
+use lib.ListN.{length, getD, set}
 use Rattle.events.specs.declared.Event.{Event}
 use Rattle.events.specs.declared.Event.the-variants.{Open, Withdraw, Deposit, Close}
-use Rattle.account.specs.declared.Told.{Told}
-use Rattle.account.specs.declared.Told.the-variants.{Accepted, Rejected, Held, Noted, Applied, Dropped}
-use Rattle.layout.specs.Fields.{rowOf, thenOf, widthsOf, total}
+use Rattle.filing.specs.declared.Filed.{Filed}
+use Rattle.filing.specs.declared.Verdict.{Verdict}
+use Rattle.filing.specs.declared.Verdict.the-variants.{Accepted, Rejected, Held}
+use Rattle.filing.specs.declared.Weighing.{Weighing}
+use Rattle.filing.specs.declared.Told.{Told}
+use Rattle.filing.specs.declared.Told.the-variants.{Voted, Noted, Applied, Dropped}
+use Rattle.layout.specs.Fields.{kindRow, rowOfKind, thenOf, widthsOf, total}
+use Rattle.layout.specs.Heading.{headingNumbers}
 use Rattle.layout.specs.Shapes.{padded}
 use Rattle.events.specs.Kinds.{eventKind, amountOf, eventOf}
 use Rattle.layout.specs.Inverse.{Fit, none, one}
 use Rattle.events.proofs.Table.{event-is, kind-fits}
 use Rattle.layout.proofs.Fields.{fit-head, fit-tail}
 use Rattle.layout.proofs.Shapes.{Hold}
-use Rattle.entry.specs.Bytes.{entryRows, kindOf, thenNumbers, lengthOfTold, toldBy}
+use Rattle.entry.specs.Bytes.{entryRows, voteKind, kindOf, thenNumbers, lengthOfTold, verdictBy, toldBy}
 use Rattle.entry.specs.Numbers.{thenIn}
 use Rattle.entry.specs.Answers.{eventFits, thenFits}
 use Rattle.entry.specs.Inverse.{amountIn, weighedIn, balanceIn}
@@ -39,63 +45,63 @@ pub record Shaped (told : Told) : Type 0 where
   pub numbers : toldBy (kindOf told) (eventOf (getD (thenNumbers told) 0 0) (getD (thenNumbers told) 1 0)) (getD (thenNumbers told) 2 0) ≡ told
   pub fitting : thenFits (thenNumbers told) ≡ true
   -- there is a number for each width, and 0 in the places behind them
-  pub paired : length (thenOf (rowOf entryRows (kindOf told))) ≡ length (thenNumbers told)
-  pub places : (t a s : ℕ)
-      → kindOf told ∷ t ∷ a ∷ s ∷ thenIn told .event ∷ thenIn told .amount ∷ thenIn told .number ∷ replicate 3 0 ≡ padded (kindOf told ∷ t ∷ a ∷ s ∷ thenNumbers told)
+  pub paired : length (thenOf (rowOfKind entryRows (kindOf told))) ≡ length (thenNumbers told)
+  pub places : (t a : ℕ) (g : Filed)
+      → set (set (set (padded (headingNumbers (kindOf told) t a g)) 4 (thenIn told .event)) 5 (thenIn told .amount)) 6 (thenIn told .number)
+      ≡ padded (headingNumbers (kindOf told) t a g ++ thenNumbers told)
   -- the widths make up the whole length
-  pub whole : total (widthsOf (rowOf entryRows (kindOf told))) ≡ lengthOfTold told
+  pub whole : total (widthsOf (rowOfKind entryRows (kindOf told))) ≡ lengthOfTold told
   -- which is the plain one
   pub length′ : lengthOfTold told ≡ lengthIn told
   -- the kind is a byte, and what fits its widths fits its bytes, both ways
   pub kind : kindOf told < 256 ^ 1
-  pub bounds : Fit (thenOf (rowOf entryRows (kindOf told))) (thenNumbers told)
+  pub bounds : Fit (thenOf (rowOfKind entryRows (kindOf told))) (thenNumbers told)
       → (amountIn told < 256 ^ 4) × (weighedIn told < 256 ^ 2) × (balanceIn told < 256 ^ 4)
-  pub fits : amountIn told < 256 ^ 4 → weighedIn told < 256 ^ 2 → balanceIn told < 256 ^ 4 → Fit (thenOf (rowOf entryRows (kindOf told))) (thenNumbers told)
+  pub fits : amountIn told < 256 ^ 4 → weighedIn told < 256 ^ 2 → balanceIn told < 256 ^ 4 → Fit (thenOf (rowOfKind entryRows (kindOf told))) (thenNumbers told)
+
+-- the row of a vote, whatever the verdict, and the vote of its kind
+vote-row : (v : Verdict) → rowOfKind entryRows (voteKind v) ≡ some (kindRow (voteKind v) 18 (1 ∷ 4 ∷ 2 ∷ []))
+unfolding rowOfKind entryRows
+vote-row Accepted = refl
+vote-row Rejected = refl
+vote-row Held = refl
+
+vote-told : (v : Verdict) (e : Event) (n : ℕ) → toldBy (voteKind v) e n ≡ Voted e (record { verdict = v; weighed = n })
+unfolding toldBy verdictBy
+vote-told Accepted e n = refl
+vote-told Rejected e n = refl
+vote-told Held e n = refl
+
+vote-byte : (v : Verdict) → voteKind v < 256 ^ 1
+vote-byte Accepted = lit< tt
+vote-byte Rejected = lit< tt
+vote-byte Held = lit< tt
+
+pub vote-length : (e : Event) (w : Weighing) → lengthOfTold (Voted e w) ≡ 18
+unfolding lengthOfTold
+vote-length e w = rw (vote-row (w .verdict))
 
 pub shaped : (told : Told) → Shaped told
-unfolding rowOf entryRows lengthOfTold toldBy
-shaped (Accepted e n) =
+unfolding rowOfKind entryRows lengthOfTold toldBy
+shaped (Voted e w) =
+    let row = vote-row (w .verdict) in
     record {
-      numbers = rw (event-is e);
+      numbers = rw (event-is e) (vote-told (w .verdict) e (w .weighed));
       fitting = event-fits e;
-      paired = refl;
-      places = λ t a s. refl;
-      whole = refl;
-      length′ = refl;
-      kind = lit< tt;
-      bounds = λ f. (fit-head (fit-tail f), fit-head (fit-tail (fit-tail f)), lit< tt);
-      fits = λ a w b. one (kind-fits e) (one a (one w none));
-    }
-shaped (Rejected e n) =
-    record {
-      numbers = rw (event-is e);
-      fitting = event-fits e;
-      paired = refl;
-      places = λ t a s. refl;
-      whole = refl;
-      length′ = refl;
-      kind = lit< tt;
-      bounds = λ f. (fit-head (fit-tail f), fit-head (fit-tail (fit-tail f)), lit< tt);
-      fits = λ a w b. one (kind-fits e) (one a (one w none));
-    }
-shaped (Held e n) =
-    record {
-      numbers = rw (event-is e);
-      fitting = event-fits e;
-      paired = refl;
-      places = λ t a s. refl;
-      whole = refl;
-      length′ = refl;
-      kind = lit< tt;
-      bounds = λ f. (fit-head (fit-tail f), fit-head (fit-tail (fit-tail f)), lit< tt);
-      fits = λ a w b. one (kind-fits e) (one a (one w none));
+      paired = rw row;
+      places = λ t a g. refl;
+      whole = rw row;
+      length′ = rw row;
+      kind = vote-byte (w .verdict);
+      bounds = λ f. let f′ = rw row at f in (fit-head (fit-tail f′), fit-head (fit-tail (fit-tail f′)), lit< tt);
+      fits = λ a n b. rw row (one (kind-fits e) (one a (one n none)));
     }
 shaped Noted =
     record {
       numbers = refl;
       fitting = refl;
       paired = refl;
-      places = λ t a s. refl;
+      places = λ t a g. refl;
       whole = refl;
       length′ = refl;
       kind = lit< tt;
@@ -107,7 +113,7 @@ shaped (Applied e n) =
       numbers = rw (event-is e);
       fitting = event-fits e;
       paired = refl;
-      places = λ t a s. refl;
+      places = λ t a g. refl;
       whole = refl;
       length′ = refl;
       kind = lit< tt;
@@ -119,7 +125,7 @@ shaped (Dropped e) =
       numbers = rw (event-is e);
       fitting = event-fits e;
       paired = refl;
-      places = λ t a s. refl;
+      places = λ t a g. refl;
       whole = refl;
       length′ = refl;
       kind = lit< tt;

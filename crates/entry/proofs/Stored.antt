@@ -13,14 +13,16 @@ use lib.Dec.{leb}
 use lib.ListN.{length, getD, take, length-append}
 use lib.Seq.{sets, take-suc, take-all}
 use Rattle.events.specs.declared.Event.the-variants.{Open}
-use Rattle.account.specs.declared.Told.{Told}
-use Rattle.account.specs.declared.Told.the-variants.{Accepted}
-use Rattle.account.specs.declared.Entry.{Entry}
-use Rattle.layout.specs.Fields.{rowOf, widthsOf, written}
+use Rattle.filing.specs.declared.Verdict.the-variants.{Accepted}
+use Rattle.filing.specs.declared.Told.{Told}
+use Rattle.filing.specs.declared.Told.the-variants.{Voted}
+use Rattle.filing.specs.declared.Entry.{Entry}
+use Rattle.filing.specs.Slots.{blankFiled}
+use Rattle.layout.specs.Fields.{rowOfKind, widthsOf, written}
 use Rattle.layout.specs.Shapes.{bytesIn, padded, shapeOf}
 use Rattle.layout.proofs.Stores.{sets-more}
 use Rattle.layout.proofs.Fields.{length-written}
-use Rattle.layout.proofs.Shapes.{found-holds, padded-written}
+use Rattle.layout.proofs.Reading.{shape-written}
 use Rattle.layout.proofs.Tables.{longest}
 use Rattle.entry.specs.Bytes.{entryRows, kindOf, numbersOf, bytesOfEntry, lengthOfTold, bytesOfEntries, wholesOf}
 use Rattle.entry.proofs.Shapes.{rows-hold, shaped}
@@ -28,7 +30,7 @@ use Rattle.entry.proofs.Shapes.{rows-hold, shaped}
 pub length-entry : (account : ℕ) (e : Entry) → length (bytesOfEntry account e) ≡ lengthOfTold (e .told)
 unfolding bytesOfEntry
 length-entry account e =
-    length-written (widthsOf (rowOf entryRows (kindOf (e .told)))) (numbersOf account e) (rw (shaped (e .told) .paired)) ∙ shaped (e .told) .whole
+    length-written (widthsOf (rowOfKind entryRows (kindOf (e .told)))) (numbersOf account e) (rw (shaped (e .told) .paired)) ∙ shaped (e .told) .whole
 
 pub length-entries : (account : ℕ) (es : List Entry) → length (bytesOfEntries account es) ≡ wholesOf es
 unfolding bytesOfEntries wholesOf
@@ -46,13 +48,12 @@ wholes-append [] ys = sym (zero-add (wholesOf ys))
 wholes-append (x ∷ xs) ys = rw (add-assoc, wholes-append xs ys)
 
 -- stored by the row of its kind, places behind it and all, an entry is its bytes
-pub row-bytes : (account : ℕ) (e : Entry) → written (map bytesIn (shapeOf (rowOf entryRows (kindOf (e .told))) .widths)) (padded (numbersOf account e)) ≡ bytesOfEntry account e
+pub row-bytes : (account : ℕ) (e : Entry) → written (map bytesIn (shapeOf (rowOfKind entryRows (kindOf (e .told))) .widths)) (padded (numbersOf account e)) ≡ bytesOfEntry account e
 unfolding bytesOfEntry lengthOfTold
 row-bytes account e =
     let told = e .told in
-    let found = rowOf entryRows (kindOf told) in
     let whole : 0 < lengthOfTold told = rw (← shaped told .whole) (omega arith) in
-    rw (found-holds entryRows (kindOf told) rows-hold whole .widths) (padded-written (widthsOf found) (numbersOf account e) (rw (shaped told .paired)))
+    shape-written entryRows (kindOf told) rows-hold whole (numbersOf account e) (rw (shaped told .paired))
 
 -- no entry has more than 40 bytes
 pub short-told : (told : Told) → lengthOfTold told ≤ 40
@@ -66,7 +67,7 @@ wholes-short (e ∷ es) = rw mul-suc (omega (arith, short-told (e .told), wholes
 
 -- what the code's arrays give past their end, where nothing looks
 abbrev pub noEntry : Entry
-noEntry = record { transaction = 0; second = 0; told = Accepted (Open 0) 0 }
+noEntry = record { transaction = 0; filed = blankFiled; told = Voted (Open 0) (record { verdict = Accepted; weighed = 0 }) }
 
 -- one entry more
 module _ (places : List Entry) (i : ℕ) (h : i < length places) where

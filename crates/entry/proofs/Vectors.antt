@@ -2,12 +2,12 @@
 -- Assumes nothing.
 use mathlib.Core.Path.{refl}
 use Rattle.layout.specs.Number.{bytesOf, numberAt}
-use Rattle.layout.specs.Fields.{written, numbersAt, rowOf}
+use Rattle.layout.specs.Fields.{written, numbersAt, rowOfKind}
 use Rattle.events.specs.Kinds.{eventOf}
-use Rattle.entry.specs.Bytes.{entryRows, bytesOfEntry, bytesOfEntries, lengthOfTold, toldBy}
+use Rattle.entry.specs.Bytes.{entryRows, bytesOfEntry, bytesOfEntries, lengthOfTold, verdictBy, toldBy}
 use Rattle.entry.specs.Answers.{readOf, writeOf}
 use Rattle.entry.specs.Vectors.{table, unreads, call, callBytes, VectorsHold}
 
 pub vectors : VectorsHold
-unfolding bytesOf numberAt written numbersAt rowOf eventOf entryRows bytesOfEntry bytesOfEntries lengthOfTold toldBy readOf writeOf table unreads call callBytes
+unfolding bytesOf numberAt written numbersAt rowOfKind eventOf entryRows bytesOfEntry bytesOfEntries lengthOfTold verdictBy toldBy readOf writeOf table unreads call callBytes
 vectors = record { entries = refl; nothing = refl; answer = refl; left = refl; short = refl; shortLeft = refl }

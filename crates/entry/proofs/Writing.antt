@@ -6,7 +6,7 @@ use mathlib.Core.List.{List}
 use borrow.Author.Tests.{lt-ltb, le-ltb}
 use lib.ListN.{length}
 use lib.Seq.{sets}
-use Rattle.account.specs.declared.Entries.{Entries}
+use Rattle.filing.specs.declared.Entries.{Entries}
 use Rattle.layout.specs.declared.Writing.the-variants as Writing′
 use Rattle.layout.specs.Answers.{wroteOver, refusedWith}
 use Rattle.layout.proofs.Stores.{laid-over}

@@ -6,14 +6,15 @@ use mathlib.Core.List.{List, [], _∷_}
 use mathlib.Core.Option.{Option, none, some}
 use lib.Dec.{eqb, leb, ltb}
 use lib.ListN.{length, getD, drop}
-use Rattle.account.specs.declared.Entry.{Entry}
-use Rattle.account.specs.declared.Entries.{Entries}
+use Rattle.filing.specs.declared.Entry.{Entry}
+use Rattle.filing.specs.declared.Entries.{Entries}
 use Rattle.layout.specs.Number.{numberAt}
-use Rattle.layout.specs.Fields.{Row, rowOf, widthsOf, numbersAt, lastAccount}
+use Rattle.layout.specs.Fields.{rowOfKind}
+use Rattle.layout.specs.Reading.{Reader, readRow}
 use Rattle.layout.specs.Answers.{Wrote, wroteOver, refusedWith}
 use Rattle.entry.specs.declared.EntryReading.{EntryReading}
 use Rattle.entry.specs.declared.EntryReading.the-variants.{Found, Nothing}
-use Rattle.entry.specs.Bytes.{entryRows, bytesOfEntries, listOf, entryOf}
+use Rattle.entry.specs.Bytes.{entryRows, bytesOfEntries, listOf, entryFrom}
 
 -- no call writes more: 11 for the commit, 20 for each of eight applied, 18 for each of eight votes (9.5)
 abbrev pub longestCall : ℕ
@@ -27,14 +28,14 @@ writeOf entries account buffer =
     (cond (ltb (length buffer) (length bytes)) (refusedWith 4 buffer) (wroteOver bytes buffer))
 
 -- what the reader of an entry gives, by the cases of its answer: the entry, its account and its length, which is 0 where there is no entry
-pub record Given : Type 0 where
+pub record SaidOfEntry : Type 0 where
   pub entry : Option Entry
   pub account : ℕ
   pub length′ : ℕ
 
-abbrev pub given : EntryReading → Given
-given (Found e account whole) = record { entry = some e; account = account; length′ = whole }
-given Nothing = record { entry = none; account = 0; length′ = 0 }
+abbrev pub saidOfEntry : EntryReading → SaidOfEntry
+saidOfEntry (Found e account whole) = record { entry = some e; account = account; length′ = whole }
+saidOfEntry Nothing = record { entry = none; account = 0; length′ = 0 }
 
 -- an event kind 1 to 4, and with a Close no amount but 0 (9.2)
 abbrev pub eventFits : (kind amount : ℕ) → Bool
@@ -45,17 +46,20 @@ abbrev pub thenFits : List ℕ → Bool
 thenFits [] = true
 thenFits (kind ∷ numbers) = eventFits kind (getD numbers 0 0)
 
--- the entry, its account and its length; an account above 15 has none
-abbrev pub readNumbers : (whole : ℕ) (numbers : List ℕ) → EntryReading
-readNumbers whole numbers =
-    cond (ltb lastAccount (getD numbers 2 0)) Nothing
-    (cond (thenFits (drop 4 numbers)) (Found (entryOf numbers) (getD numbers 2 0) whole) Nothing)
+-- an entry that fits is found, with its account and its length
+abbrev pub foundIf : (fits : Bool) → Entry → (account whole : ℕ) → EntryReading
+foundIf fits e account whole = cond fits (Found e account whole) Nothing
 
--- a kind that is not 17 to 22, or an entry that is not whole, is none
-abbrev pub readKind : Option Row → (bytes : List ℕ) → EntryReading
-readKind none bytes = Nothing
-readKind (some r) bytes = cond (ltb (length bytes) (r .whole)) Nothing (readNumbers (r .whole) (numbersAt (widthsOf (some r)) bytes 0))
+-- by the numbers; a kind that is not 17 to 22, an entry that is not whole and one of an account above 15 are none
+abbrev pub entryReader : Reader EntryReading
+entryReader =
+    record {
+      unknown = Nothing;
+      short = Nothing;
+      elsewhere = Nothing;
+      taken = λ (whole : ℕ) (numbers : List ℕ). foundIf (thenFits (drop 4 numbers)) (entryFrom numbers) (getD numbers 2 0) whole;
+    }
 
 -- the reader of one entry; bytes behind it play no part (9.6)
 unfoldable pub readOf : (bytes : List ℕ) → EntryReading
-readOf bytes = readKind (rowOf entryRows (numberAt bytes 0 1)) bytes
+readOf bytes = readRow entryReader (rowOfKind entryRows (numberAt bytes 0 1)) bytes

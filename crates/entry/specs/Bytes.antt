@@ -6,51 +6,56 @@ use mathlib.Core.List.{List, [], _∷_, _++_}
 use lib.Dec.{eqb}
 use lib.ListN.{getD, take}
 use Rattle.events.specs.declared.Event.{Event}
-use Rattle.account.specs.declared.Told.{Told}
-use Rattle.account.specs.declared.Told.the-variants.{Accepted, Rejected, Held, Noted, Applied, Dropped}
-use Rattle.account.specs.declared.Entry.{Entry}
-use Rattle.account.specs.declared.Entries.{Entries}
-use Rattle.layout.specs.Fields.{Row, row, rowOf, wholeOf, widthsOf, written}
+use Rattle.filing.specs.declared.Verdict.{Verdict}
+use Rattle.filing.specs.declared.Verdict.the-variants.{Accepted, Rejected, Held}
+use Rattle.filing.specs.declared.Told.{Told}
+use Rattle.filing.specs.declared.Told.the-variants.{Voted, Noted, Applied, Dropped}
+use Rattle.filing.specs.declared.Entry.{Entry}
+use Rattle.filing.specs.declared.Entries.{Entries}
+use Rattle.layout.specs.Fields.{KindRow, kindRow, rowOfKind, wholeOf, widthsOf, written}
+use Rattle.layout.specs.Heading.{headingNumbers, filedFrom}
 use Rattle.events.specs.Kinds.{eventKind, amountOf, eventOf}
 
 -- the table: kind, whole length, and the widths of what follows the heading
-unfoldable pub entryRows : List Row
+unfoldable pub entryRows : List KindRow
 entryRows =
-    row 17 18 (1 ∷ 4 ∷ 2 ∷ []) ∷
-    row 18 18 (1 ∷ 4 ∷ 2 ∷ []) ∷
-    row 19 18 (1 ∷ 4 ∷ 2 ∷ []) ∷
-    row 20 11 [] ∷
-    row 21 20 (1 ∷ 4 ∷ 4 ∷ []) ∷
-    row 22 16 (1 ∷ 4 ∷ []) ∷
+    kindRow 17 18 (1 ∷ 4 ∷ 2 ∷ []) ∷
+    kindRow 18 18 (1 ∷ 4 ∷ 2 ∷ []) ∷
+    kindRow 19 18 (1 ∷ 4 ∷ 2 ∷ []) ∷
+    kindRow 20 11 [] ∷
+    kindRow 21 20 (1 ∷ 4 ∷ 4 ∷ []) ∷
+    kindRow 22 16 (1 ∷ 4 ∷ []) ∷
     []
 
+-- a vote has the kind of its verdict
+abbrev pub voteKind : Verdict → ℕ
+voteKind Accepted = 17
+voteKind Rejected = 18
+voteKind Held = 19
+
 abbrev pub kindOf : Told → ℕ
-kindOf (Accepted e weighed) = 17
-kindOf (Rejected e weighed) = 18
-kindOf (Held e weighed) = 19
+kindOf (Voted e weighing) = voteKind (weighing .verdict)
 kindOf Noted = 20
 kindOf (Applied e balance) = 21
 kindOf (Dropped e) = 22
 
 -- what follows the heading: the event, and the outcomes weighed or the balance; nothing after a commit noted
 abbrev pub thenNumbers : Told → List ℕ
-thenNumbers (Accepted e weighed) = eventKind e ∷ amountOf e ∷ weighed ∷ []
-thenNumbers (Rejected e weighed) = eventKind e ∷ amountOf e ∷ weighed ∷ []
-thenNumbers (Held e weighed) = eventKind e ∷ amountOf e ∷ weighed ∷ []
+thenNumbers (Voted e weighing) = eventKind e ∷ amountOf e ∷ weighing .weighed ∷ []
 thenNumbers Noted = []
 thenNumbers (Applied e balance) = eventKind e ∷ amountOf e ∷ balance ∷ []
 thenNumbers (Dropped e) = eventKind e ∷ amountOf e ∷ []
 
 -- the heading, and what follows it
 abbrev pub numbersOf : (account : ℕ) → Entry → List ℕ
-numbersOf account e = kindOf (e .told) ∷ e .transaction ∷ account ∷ e .second ∷ thenNumbers (e .told)
+numbersOf account e = headingNumbers (kindOf (e .told)) (e .transaction) account (e .filed) ++ thenNumbers (e .told)
 
 -- an entry's bytes; of a number of outcomes above 65,535, which no call gives, the lowest two bytes
 unfoldable pub bytesOfEntry : (account : ℕ) → Entry → List ℕ
-bytesOfEntry account e = written (widthsOf (rowOf entryRows (kindOf (e .told)))) (numbersOf account e)
+bytesOfEntry account e = written (widthsOf (rowOfKind entryRows (kindOf (e .told)))) (numbersOf account e)
 
 unfoldable pub lengthOfTold : Told → ℕ
-lengthOfTold told = wholeOf (rowOf entryRows (kindOf told))
+lengthOfTold told = wholeOf (rowOfKind entryRows (kindOf told))
 
 -- the entries of a call, one after the other
 unfoldable pub bytesOfEntries : (account : ℕ) → List Entry → List ℕ
@@ -66,24 +71,26 @@ wholesOf (e ∷ es) = lengthOfTold (e .told) + wholesOf es
 abbrev pub listOf : Entries → List Entry
 listOf entries = take (entries .count) (entries .at)
 
--- what an entry of a kind 17 to 22 tells
+-- the verdict of a vote of a kind 17 to 19,
+unfoldable pub verdictBy : (kind : ℕ) → Verdict
+verdictBy kind = cond (eqb kind 17) Accepted (cond (eqb kind 18) Rejected Held)
+
+-- and what an entry of a kind 17 to 22 tells
 unfoldable pub toldBy : (kind : ℕ) → Event → (number : ℕ) → Told
 toldBy kind e number =
-    cond (eqb kind 17) (Accepted e number)
-    (cond (eqb kind 18) (Rejected e number)
-    (cond (eqb kind 19) (Held e number)
-    (cond (eqb kind 20) Noted
-    (cond (eqb kind 21) (Applied e number) (Dropped e)))))
+    cond (eqb kind 20) Noted
+    (cond (eqb kind 21) (Applied e number)
+    (cond (eqb kind 22) (Dropped e) (Voted e (record { verdict = verdictBy kind; weighed = number }))))
 
 -- the entry of a kind 17 to 22 whose numbers these are
 abbrev pub entryBy : (kind : ℕ) (numbers : List ℕ) → Entry
 entryBy kind numbers =
     record {
       transaction = getD numbers 1 0;
-      second = getD numbers 3 0;
+      filed = filedFrom numbers;
       told = toldBy kind (eventOf (getD numbers 4 0) (getD numbers 5 0)) (getD numbers 6 0);
     }
 
 -- the entry that these numbers are
-abbrev pub entryOf : (numbers : List ℕ) → Entry
-entryOf numbers = entryBy (getD numbers 0 0) numbers
+abbrev pub entryFrom : (numbers : List ℕ) → Entry
+entryFrom numbers = entryBy (getD numbers 0 0) numbers

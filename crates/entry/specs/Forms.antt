@@ -5,26 +5,31 @@ use mathlib.Core.Path.{_≡_}
 use mathlib.Core.List.{List, [], _∷_, _++_, map}
 use mathlib.Core.Option.{none, some}
 use lib.ListN.{length, take}
-use Rattle.account.specs.declared.Entry.{Entry}
-use Rattle.account.specs.declared.Entries.{Entries}
+use Rattle.filing.specs.declared.Entry.{Entry}
+use Rattle.filing.specs.declared.Entries.{Entries}
 use Rattle.layout.specs.Answers as Writing′
 use Rattle.entry.specs.declared.EntryReading.the-variants.{Found, Nothing}
-use Rattle.entry.specs.Bytes.{bytesOfEntry}
-use Rattle.entry.specs.Answers.{given, writeOf}
+use Rattle.entry.specs.Bytes.{bytesOfEntry, bytesOfEntries}
+use Rattle.entry.specs.Answers.{saidOfEntry, writeOf}
 
 pub record EntryReadingForm : Type 0 where
-  pub found : (e : Entry) (account whole : ℕ) → given (Found e account whole) ≡ record { entry = some e; account = account; length′ = whole }
-  pub nothing : given Nothing ≡ record { entry = none; account = 0; length′ = 0 }
+  pub found : (e : Entry) (account whole : ℕ) → saidOfEntry (Found e account whole) ≡ record { entry = some e; account = account; length′ = whole }
+  pub nothing : saidOfEntry Nothing ≡ record { entry = none; account = 0; length′ = 0 }
 
 -- strings of bytes, one after the other
 abbrev pub together : List (List ℕ) → List ℕ
 together [] = []
 together (x ∷ xs) = x ++ together xs
 
--- a buffer that is written begins with the bytes of each entry, under the account that was named
+-- the entries of a call have the bytes of each, one after the other, all under the account that was named (9.1)
+abbrev pub EntriesTogether : Type 0
+EntriesTogether = (account : ℕ) (entries : List Entry) → bytesOfEntries account entries ≡ together (map (bytesOfEntry account) entries)
+
+-- a buffer that is written begins with these bytes, and the answer is how many they are
 abbrev pub WriterLeaves : Type 0
 WriterLeaves =
     (entries : Entries) (account : ℕ) (buffer : List ℕ)
-    → Writing′.given (writeOf entries account buffer .answer) .refusal ≡ none
+    → Writing′.saidOfWriting (writeOf entries account buffer .answer) .refusal ≡ none
     → let bytes = together (map (bytesOfEntry account) (take (entries .count) (entries .at))) in
-    take (length bytes) (writeOf entries account buffer .buffer) ≡ bytes
+    (Writing′.saidOfWriting (writeOf entries account buffer .answer) .length′ ≡ length bytes)
+    × (take (length bytes) (writeOf entries account buffer .buffer) ≡ bytes)

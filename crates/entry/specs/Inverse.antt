@@ -4,11 +4,12 @@ use Prim.Native.Nat.{ℕ, _≤_, _<_, _^_}
 use mathlib.Core.Path.{_≡_}
 use mathlib.Core.List.{List, _++_}
 use lib.ListN.{take}
-use Rattle.account.specs.declared.Told.{Told}
-use Rattle.account.specs.declared.Told.the-variants.{Accepted, Rejected, Held, Noted, Applied, Dropped}
-use Rattle.account.specs.declared.Entry.{Entry}
+use Rattle.filing.specs.declared.Told.{Told}
+use Rattle.filing.specs.declared.Told.the-variants.{Voted, Noted, Applied, Dropped}
+use Rattle.filing.specs.declared.Entry.{Entry}
 use Rattle.layout.specs.Number.{AreBytes}
 use Rattle.layout.specs.Fields.{lastAccount}
+use Rattle.layout.specs.Heading.{FiledFits}
 use Rattle.events.specs.Kinds.{amountOf}
 use Rattle.entry.specs.declared.EntryReading.the-variants.{Found}
 use Rattle.entry.specs.Bytes.{bytesOfEntry, lengthOfTold}
@@ -16,25 +17,19 @@ use Rattle.entry.specs.Answers.{readOf}
 
 -- the amount, the outcomes weighed and the balance of an entry, each 0 where it has none
 abbrev pub amountIn : Told → ℕ
-amountIn (Accepted e weighed) = amountOf e
-amountIn (Rejected e weighed) = amountOf e
-amountIn (Held e weighed) = amountOf e
+amountIn (Voted e weighing) = amountOf e
 amountIn Noted = 0
 amountIn (Applied e balance) = amountOf e
 amountIn (Dropped e) = amountOf e
 
 abbrev pub weighedIn : Told → ℕ
-weighedIn (Accepted e weighed) = weighed
-weighedIn (Rejected e weighed) = weighed
-weighedIn (Held e weighed) = weighed
+weighedIn (Voted e weighing) = weighing .weighed
 weighedIn Noted = 0
 weighedIn (Applied e balance) = 0
 weighedIn (Dropped e) = 0
 
 abbrev pub balanceIn : Told → ℕ
-balanceIn (Accepted e weighed) = 0
-balanceIn (Rejected e weighed) = 0
-balanceIn (Held e weighed) = 0
+balanceIn (Voted e weighing) = 0
 balanceIn Noted = 0
 balanceIn (Applied e balance) = balance
 balanceIn (Dropped e) = 0
@@ -43,7 +38,7 @@ balanceIn (Dropped e) = 0
 pub record Writable (account : ℕ) (e : Entry) : Type 0 where
   pub transaction : e .transaction < 256 ^ 4
   pub account′ : account ≤ lastAccount
-  pub second : e .second < 256 ^ 4
+  pub filed : FiledFits (e .filed)
   pub amount : amountIn (e .told) < 256 ^ 4
   pub weighed : weighedIn (e .told) < 256 ^ 2
   pub balance : balanceIn (e .told) < 256 ^ 4

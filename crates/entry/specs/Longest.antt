@@ -1,4 +1,5 @@
--- How long the entries of one call are: its own, those of the events applied, the votes on held requests (docs/REGISTER.md, 9.4 and 9.5).
+-- How long the entries of one call are: its own, those of the events applied, the votes on held requests (docs/REGISTER.md, 9.4 and 9.5). Said of
+-- every rule that has no more places than an account, and of what its calls write.
 -- Assumes nothing.
 use Prim.Native.Nat.{ℕ, _+_, _*_, _≤_}
 use mathlib.Core.Path.{_≡_}
@@ -8,69 +9,78 @@ use lib.Dec.{ltb}
 use lib.ListN.{length}
 use Rattle.rule.specs.Lists.{every}
 use Rattle.rule.specs.Rule as rule
+use Rattle.rule.specs.Tests.{test, firstOf}
+use Rattle.rule.specs.Call as call
+use Rattle.rule.specs.InOrder.{isInOrder}
+use Rattle.rule.specs.Written.{Writes}
 use Rattle.events.specs.declared.Event.{Event}
 use Rattle.events.specs.declared.Event.the-variants.{Deposit}
 use Rattle.events.specs.declared.Life.the-variants.{Opened}
-use Rattle.account.specs.declared.Account.{Account}
-use Rattle.account.specs.declared.Told.{Told}
-use Rattle.account.specs.declared.Told.the-variants.{Accepted, Rejected, Held, Noted, Applied, Dropped}
-use Rattle.account.specs.declared.Entry.{Entry}
-use Rattle.account.specs.Places.{accountOf}
-use Rattle.account.specs.Steps.{stepOf}
-use Rattle.layout.specs.Answers.{given, test, firstOf}
+use Rattle.events.specs.declared.State.{State}
+use Rattle.filing.specs.declared.Filed.{Filed}
+use Rattle.filing.specs.declared.Told.{Told}
+use Rattle.filing.specs.declared.Told.the-variants.{Voted, Noted, Applied, Dropped}
+use Rattle.filing.specs.declared.Entry.{Entry}
+use Rattle.filing.specs.Slots.{RuleSlot, places, blankFiled}
+use Rattle.filing.specs.Entries.{RuleEntry, entriesOf}
+use Rattle.layout.specs.Answers.{saidOfWriting}
 use Rattle.entry.specs.Bytes.{bytesOfEntries, wholesOf, listOf}
 use Rattle.entry.specs.Answers.{writeOf}
 
 abbrev pub isApplied : Told → Bool
-isApplied (Accepted e weighed) = false
-isApplied (Rejected e weighed) = false
-isApplied (Held e weighed) = false
+isApplied (Voted e weighing) = false
 isApplied Noted = false
 isApplied (Applied e balance) = true
 isApplied (Dropped e) = false
 
 abbrev pub isVote : Told → Bool
-isVote (Accepted e weighed) = true
-isVote (Rejected e weighed) = true
-isVote (Held e weighed) = true
+isVote (Voted e weighing) = true
 isVote Noted = false
 isVote (Applied e balance) = false
 isVote (Dropped e) = false
 
 -- the length of a commit's entries and of an abort's, with these applied and these votes after its own entry
 pub record Sized (applied votes : List Entry) : Type 0 where
-  pub commit : (t s : ℕ) → wholesOf (record { transaction = t; second = s; told = Noted } ∷ (applied ++ votes)) ≡ 11 + (20 * length applied + 18 * length votes)
-  pub abort : (t s : ℕ) (e : Event)
-      → wholesOf (record { transaction = t; second = s; told = Dropped e } ∷ (applied ++ votes)) ≡ 16 + (20 * length applied + 18 * length votes)
+  pub commit : (t : ℕ) (g : Filed)
+      → wholesOf (record { transaction = t; filed = g; told = Noted } ∷ (applied ++ votes)) ≡ 11 + (20 * length applied + 18 * length votes)
+  pub abort : (t : ℕ) (g : Filed) (e : Event)
+      → wholesOf (record { transaction = t; filed = g; told = Dropped e } ∷ (applied ++ votes)) ≡ 16 + (20 * length applied + 18 * length votes)
 
 abbrev pub CallsSized : Type 0
 CallsSized =
     (applied votes : List Entry) → every (λ (x : Entry). isApplied (x .told)) applied ≡ true → every (λ (x : Entry). isVote (x .told)) votes ≡ true
     → Sized applied votes
 
--- no step of any account writes more than 17 entries or 315 bytes
-pub record CallFits (a : Account) (m : rule.Message ℕ Event) : Type 0 where
-  pub count : stepOf a m .entries .count ≤ 17
-  pub bytes : (account : ℕ) → length (bytesOfEntries account (listOf (stepOf a m .entries))) ≤ 315
+-- these are no more than 17 entries and 315 bytes
+pub record CallFits (xs : List RuleEntry) : Type 0 where
+  pub count : entriesOf xs .count ≤ 17
+  pub bytes : (account : ℕ) → length (bytesOfEntries account (listOf (entriesOf xs))) ≤ 315
 
-abbrev pub CallsFit : Type 0
-CallsFit = (a : Account) (m : rule.Message ℕ Event) → CallFits a m
+-- no call writes more
+pub record CallsFit : Type 0 where
+  -- nothing, as a refused one writes
+  pub nothing : CallFits []
+  -- the entries of a message that is taken, where no more events are in progress and no more requests held than there are places
+  pub taken : (progressing holding : ℕ) (m : rule.Message Filed Event) (xs : List RuleEntry) → progressing ≤ places → holding ≤ places
+      → Writes progressing holding m xs → CallFits xs
+  -- those of any call on an account in order, by any rule that allows no more than there are places
+  pub called : (R : rule.Rule State Event ℕ) (a : rule.Account Filed State Event) (m : rule.Message Filed Event)
+      → R .progressLimit ≤ places → R .heldLimit ≤ places → isInOrder R a ≡ true → CallFits (call.written (call.call R a m .answer))
 
--- so a step's entries are refused exactly if the buffer has less than 315 bytes
+-- so a call's entries are refused exactly if the buffer has less than 315 bytes
 abbrev pub CallsRefused : Type 0
 CallsRefused =
-    (a : Account) (m : rule.Message ℕ Event) (account : ℕ) (buffer : List ℕ)
-    → given (writeOf (stepOf a m .entries) account buffer .answer) .refusal ≡ firstOf (test (ltb (length buffer) 315) 4 ∷ [])
+    (xs : List RuleEntry) → CallFits xs → (account : ℕ) (buffer : List ℕ)
+    → saidOfWriting (writeOf (entriesOf xs) account buffer .answer) .refusal ≡ firstOf (test (ltb (length buffer) 315) 4 ∷ [])
 
 -- a deposit of 1 in a place
-abbrev pub deposit : (transaction : ℕ) → rule.Decision → rule.Slot ℕ Event
-deposit t d = rule.slot t 0 (Deposit 1) d
+abbrev pub deposit : (transaction : ℕ) → rule.Decision → RuleSlot
+deposit t d = rule.slot t blankFiled (Deposit 1) d
 
 -- an account with eight deposits in progress, of which only the oldest is undecided, and eight held
-abbrev pub fullAccount : Account
+abbrev pub fullAccount : rule.Account Filed State Event
 fullAccount =
-    accountOf
-    (record {
+    record {
       state = record { life = Opened; balance = 100 };
       progress =
           deposit 1 rule.undecided ∷ deposit 2 rule.committed ∷ deposit 3 rule.committed ∷ deposit 4 rule.committed ∷
@@ -78,8 +88,17 @@ fullAccount =
       held =
           deposit 9 rule.undecided ∷ deposit 10 rule.undecided ∷ deposit 11 rule.undecided ∷ deposit 12 rule.undecided ∷
           deposit 13 rule.undecided ∷ deposit 14 rule.undecided ∷ deposit 15 rule.undecided ∷ deposit 16 rule.undecided ∷ [];
-    })
+    }
 
--- the commit of its oldest event writes as much as any call can
-abbrev pub LongestThereIs : Type 0
-LongestThereIs = length (bytesOfEntries 0 (listOf (stepOf fullAccount (rule.commit 1 0) .entries))) ≡ 315
+-- by this rule it is in order, and the commit of its oldest event writes as much as any call can
+pub record LongestBy (R : rule.Rule State Event ℕ) : Type 0 where
+  pub ordered : isInOrder R fullAccount ≡ true
+  pub bytes : (account : ℕ)
+      → length (bytesOfEntries account (listOf (entriesOf (call.written (call.call R fullAccount (rule.commit 1 blankFiled) .answer))))) ≡ 315
+
+-- there is such a rule, with as many places as an account has
+pub record LongestThereIs : Type 0 where
+  pub by : rule.Rule State Event ℕ
+  pub progress : by .progressLimit ≡ places
+  pub held : by .heldLimit ≡ places
+  pub longest : LongestBy by

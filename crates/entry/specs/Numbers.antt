@@ -2,8 +2,8 @@
 -- Assumes nothing.
 use Prim.Native.Nat.{ℕ}
 use Rattle.events.specs.declared.Event.{Event}
-use Rattle.account.specs.declared.Told.{Told}
-use Rattle.account.specs.declared.Told.the-variants.{Accepted, Rejected, Held, Noted, Applied, Dropped}
+use Rattle.filing.specs.declared.Told.{Told}
+use Rattle.filing.specs.declared.Told.the-variants.{Voted, Noted, Applied, Dropped}
 use Rattle.events.specs.Kinds.{eventKind, amountOf}
 use Rattle.entry.specs.declared.kinds.Then.{Then}
 
@@ -11,9 +11,7 @@ abbrev pub withEvent : Event → (number : ℕ) → Then
 withEvent e number = record { event = eventKind e; amount = amountOf e; number = number }
 
 abbrev pub thenIn : Told → Then
-thenIn (Accepted e weighed) = withEvent e weighed
-thenIn (Rejected e weighed) = withEvent e weighed
-thenIn (Held e weighed) = withEvent e weighed
+thenIn (Voted e weighing) = withEvent e (weighing .weighed)
 thenIn Noted = record { event = 0; amount = 0; number = 0 }
 thenIn (Applied e balance) = withEvent e balance
 thenIn (Dropped e) = withEvent e 0

@@ -11,21 +11,28 @@ use lib.Dec.{eqb, leb, ltb}
 use lib.ListN.{length, getD, take, drop}
 use Rattle.events.specs.declared.Event.{Event}
 use Rattle.events.specs.declared.Event.the-variants.{Open, Withdraw, Deposit, Close}
-use Rattle.account.specs.declared.Told.{Told}
-use Rattle.account.specs.declared.Told.the-variants.{Accepted, Rejected, Held, Noted, Applied, Dropped}
-use Rattle.account.specs.declared.Entry.{Entry}
-use Rattle.account.specs.declared.Entries.{Entries}
-use Rattle.layout.specs.Fields.{rowOf, wholeOf}
+use Rattle.filing.specs.declared.Filed.{Filed}
+use Rattle.filing.specs.declared.Verdict.{Verdict}
+use Rattle.filing.specs.declared.Verdict.the-variants.{Accepted, Rejected, Held}
+use Rattle.filing.specs.declared.Told.{Told}
+use Rattle.filing.specs.declared.Told.the-variants.{Voted, Noted, Applied, Dropped}
+use Rattle.filing.specs.declared.Entry.{Entry}
+use Rattle.filing.specs.declared.Entries.{Entries}
+use Rattle.layout.specs.Fields.{rowOfKind, wholeOf}
 use Rattle.events.specs.Kinds.{amountOf}
-use Rattle.layout.specs.Plain.{twoAt, fourAt, twoOf, fourOf}
+use Rattle.layout.specs.Plain.{twoAt, fourAt, twoOf, fourOf, filedIn, headingBytes}
 use Rattle.layout.specs.Answers as Writing′
 use Rattle.entry.specs.Bytes.{entryRows, bytesOfEntry, lengthOfTold}
-use Rattle.entry.specs.Answers.{Given, given, readOf, writeOf}
+use Rattle.entry.specs.Answers.{SaidOfEntry, saidOfEntry, readOf, writeOf}
 use Rattle.entry.specs.Inverse.{amountIn, weighedIn, balanceIn, Writable}
+
+-- a vote of that verdict
+abbrev pub vote : Verdict → Event → (weighed : ℕ) → Told
+vote verdict e weighed = Voted e (record { verdict = verdict; weighed = weighed })
 
 -- what an entry of each kind tells, in the order of the kinds 17 to 22
 abbrev pub ofEachKind : Event → (number : ℕ) → List Told
-ofEachKind e n = Accepted e n ∷ Rejected e n ∷ Held e n ∷ Noted ∷ Applied e n ∷ Dropped e ∷ []
+ofEachKind e n = vote Accepted e n ∷ vote Rejected e n ∷ vote Held e n ∷ Noted ∷ Applied e n ∷ Dropped e ∷ []
 
 -- an event's kind and amount
 abbrev pub eventBytes : Event → List ℕ
@@ -34,19 +41,15 @@ eventBytes (Withdraw a) = 2 ∷ fourOf a
 eventBytes (Deposit a) = 3 ∷ fourOf a
 eventBytes Close = 4 ∷ 0 ∷ 0 ∷ 0 ∷ 0 ∷ []
 
--- transaction, account and second, highest byte first
-abbrev pub headingBytes : (transaction account second : ℕ) → List ℕ
-headingBytes t a s = fourOf t ++ (twoOf a ++ fourOf s)
-
 -- whatever the numbers are: the bytes of each entry, its length, and the numbers that have to fit
-pub record Plain (t a s : ℕ) (e : Event) (n : ℕ) : Type 0 where
-  pub bytes : map (λ (told : Told). bytesOfEntry a (record { transaction = t; second = s; told = told })) (ofEachKind e n)
-      ≡ (17 ∷ (headingBytes t a s ++ (eventBytes e ++ twoOf n))) ∷
-      (18 ∷ (headingBytes t a s ++ (eventBytes e ++ twoOf n))) ∷
-      (19 ∷ (headingBytes t a s ++ (eventBytes e ++ twoOf n))) ∷
-      (20 ∷ headingBytes t a s) ∷
-      (21 ∷ (headingBytes t a s ++ (eventBytes e ++ fourOf n))) ∷
-      (22 ∷ (headingBytes t a s ++ eventBytes e)) ∷
+pub record Plain (t a : ℕ) (g : Filed) (e : Event) (n : ℕ) : Type 0 where
+  pub bytes : map (λ (told : Told). bytesOfEntry a (record { transaction = t; filed = g; told = told })) (ofEachKind e n)
+      ≡ (17 ∷ (headingBytes t a g ++ (eventBytes e ++ twoOf n))) ∷
+      (18 ∷ (headingBytes t a g ++ (eventBytes e ++ twoOf n))) ∷
+      (19 ∷ (headingBytes t a g ++ (eventBytes e ++ twoOf n))) ∷
+      (20 ∷ headingBytes t a g) ∷
+      (21 ∷ (headingBytes t a g ++ (eventBytes e ++ fourOf n))) ∷
+      (22 ∷ (headingBytes t a g ++ eventBytes e)) ∷
       []
   pub lengths : map lengthOfTold (ofEachKind e n) ≡ 18 ∷ 18 ∷ 18 ∷ 11 ∷ 20 ∷ 16 ∷ []
   pub amounts : map amountIn (ofEachKind e n) ≡ amountOf e ∷ amountOf e ∷ amountOf e ∷ 0 ∷ amountOf e ∷ amountOf e ∷ []
@@ -54,28 +57,26 @@ pub record Plain (t a s : ℕ) (e : Event) (n : ℕ) : Type 0 where
   pub balances : map balanceIn (ofEachKind e n) ≡ 0 ∷ 0 ∷ 0 ∷ 0 ∷ n ∷ 0 ∷ []
 
 abbrev pub EntriesPlain : Type 0
-EntriesPlain = (t a s : ℕ) (e : Event) (n : ℕ) → Plain t a s e n
+EntriesPlain = (t a : ℕ) (g : Filed) (e : Event) (n : ℕ) → Plain t a g e n
 
 -- kinds 17 to 19 have 18 bytes, 20 has 11, 21 has 20, 22 has 16, and there are no others
 abbrev pub kindLength : (kind : ℕ) → ℕ
 kindLength kind = cond (leb kind 19) 18 (cond (eqb kind 20) 11 (cond (eqb kind 21) 20 16))
 
 abbrev pub LengthsPlain : Type 0
-LengthsPlain = (kind : ℕ) → wholeOf (rowOf entryRows kind) ≡ cond (leb 17 kind && leb kind 22) (kindLength kind) 0
+LengthsPlain = (kind : ℕ) → wholeOf (rowOfKind entryRows kind) ≡ cond (leb 17 kind && leb kind 22) (kindLength kind) 0
 
 abbrev pub lengthIn : Told → ℕ
-lengthIn (Accepted e n) = 18
-lengthIn (Rejected e n) = 18
-lengthIn (Held e n) = 18
+lengthIn (Voted e weighing) = 18
 lengthIn Noted = 11
 lengthIn (Applied e n) = 20
 lengthIn (Dropped e) = 16
 
 -- the answers of a reader that found an entry, and that found none
-abbrev pub found : Entry → (account whole : ℕ) → Given
+abbrev pub found : Entry → (account whole : ℕ) → SaidOfEntry
 found e account whole = record { entry = some e; account = account; length′ = whole }
 
-abbrev pub nothing : Given
+abbrev pub nothing : SaidOfEntry
 nothing = record { entry = none; account = 0; length′ = 0 }
 
 -- kind and amount of the event in the bytes are those of the event
@@ -85,11 +86,15 @@ EventStands bytes (Withdraw a) = (getD bytes 11 0 ≡ 2) × (fourAt bytes 12 ≡
 EventStands bytes (Deposit a) = (getD bytes 11 0 ≡ 3) × (fourAt bytes 12 ≡ a)
 EventStands bytes Close = (getD bytes 11 0 ≡ 4) × (fourAt bytes 12 ≡ 0)
 
+-- the kind in the bytes is that of the verdict
+abbrev pub VoteStands : (bytes : List ℕ) → Verdict → Type 0
+VoteStands bytes Accepted = getD bytes 0 0 ≡ 17
+VoteStands bytes Rejected = getD bytes 0 0 ≡ 18
+VoteStands bytes Held = getD bytes 0 0 ≡ 19
+
 -- kind, event and number in the bytes are those that the entry tells
 abbrev pub Stands : (bytes : List ℕ) → Told → Type 0
-Stands bytes (Accepted e n) = (getD bytes 0 0 ≡ 17) × EventStands bytes e × (twoAt bytes 16 ≡ n)
-Stands bytes (Rejected e n) = (getD bytes 0 0 ≡ 18) × EventStands bytes e × (twoAt bytes 16 ≡ n)
-Stands bytes (Held e n) = (getD bytes 0 0 ≡ 19) × EventStands bytes e × (twoAt bytes 16 ≡ n)
+Stands bytes (Voted e weighing) = VoteStands bytes (weighing .verdict) × EventStands bytes e × (twoAt bytes 16 ≡ weighing .weighed)
 Stands bytes Noted = getD bytes 0 0 ≡ 20
 Stands bytes (Applied e n) = (getD bytes 0 0 ≡ 21) × EventStands bytes e × (fourAt bytes 16 ≡ n)
 Stands bytes (Dropped e) = (getD bytes 0 0 ≡ 22) × EventStands bytes e
@@ -99,13 +104,13 @@ pub record Begins (bytes : List ℕ) (e : Entry) (account whole : ℕ) : Type 0 
   pub transaction : fourAt bytes 1 ≡ e .transaction
   pub account′ : twoAt bytes 5 ≡ account
   pub known : twoAt bytes 5 ≤ 15
-  pub second : fourAt bytes 7 ≡ e .second
+  pub filed : filedIn bytes ≡ e .filed
   pub length′ : whole ≡ lengthIn (e .told)
   pub enough : whole ≤ length bytes
 
 -- an entry is found exactly if the bytes begin with it,
 abbrev pub ReaderFinds : Type 0
-ReaderFinds = (bytes : List ℕ) (e : Entry) (account whole : ℕ) → (given (readOf bytes) ≡ found e account whole) ↔ Begins bytes e account whole
+ReaderFinds = (bytes : List ℕ) (e : Entry) (account whole : ℕ) → (saidOfEntry (readOf bytes) ≡ found e account whole) ↔ Begins bytes e account whole
 
 -- and none exactly if the kind is none of the six, bytes are missing, the account is above 15, the event kind is none of the four, or a close has
 -- an amount
@@ -118,7 +123,7 @@ noEntry bytes =
     && (not (leb 1 (getD bytes 11 0) && leb (getD bytes 11 0) 4) || (eqb (getD bytes 11 0) 4 && not (eqb (fourAt bytes 12) 0))))))
 
 abbrev pub ReaderFindsNone : Type 0
-ReaderFindsNone = (bytes : List ℕ) → (given (readOf bytes) ≡ nothing) ↔ (noEntry bytes ≡ true)
+ReaderFindsNone = (bytes : List ℕ) → (saidOfEntry (readOf bytes) ≡ nothing) ↔ (noEntry bytes ≡ true)
 
 -- every entry can be written for that account
 abbrev pub AllWritable : (account : ℕ) → List Entry → Type 0
@@ -133,11 +138,11 @@ lengthsIn (e ∷ es) = lengthIn (e .told) + lengthsIn es
 -- these entries are read from the bytes, one after the other
 abbrev pub AllRead : (account : ℕ) → List Entry → (bytes : List ℕ) → Type 0
 AllRead account [] bytes = Unit {0}
-AllRead account (e ∷ es) bytes = (given (readOf bytes) ≡ found e account (lengthIn (e .told))) × AllRead account es (drop (lengthIn (e .told)) bytes)
+AllRead account (e ∷ es) bytes = (saidOfEntry (readOf bytes) ≡ found e account (lengthIn (e .told))) × AllRead account es (drop (lengthIn (e .told)) bytes)
 
 -- what was written is there to be read: the answer is the length of the entries, and the buffer begins with them
 pub record Leaves (entries : List Entry) (account : ℕ) (w : Writing′.Wrote) : Type 0 where
-  pub answer : Writing′.given (w .answer) ≡ record { refusal = none; length′ = lengthsIn entries }
+  pub answer : Writing′.saidOfWriting (w .answer) ≡ record { refusal = none; length′ = lengthsIn entries }
   pub back : AllRead account entries (w .buffer)
 
 abbrev pub WriterReadBack : Type 0

@@ -5,18 +5,19 @@ use mathlib.Core.Path.{_≡_}
 use mathlib.Core.List.{List, [], _∷_}
 use lib.Dec.{ltb}
 use lib.ListN.{length, take}
-use Rattle.account.specs.declared.Entries.{Entries}
-use Rattle.layout.specs.Answers.{given, test, firstOf, Stays}
+use Rattle.rule.specs.Tests.{test, firstOf}
+use Rattle.filing.specs.declared.Entries.{Entries}
+use Rattle.layout.specs.Answers.{saidOfWriting, Stays}
 use Rattle.entry.specs.declared.EntryReading.{EntryReading}
 use Rattle.entry.specs.Answers as Answers′
 use Rattle.entry.specs.Answers.{writeOf}
 use Rattle.entry.specs.Plain.{lengthsIn}
 
--- 4 exactly if the buffer has less than 315 bytes, or if the entries do not fit; of a step's entries the second never holds (Longest)
+-- 4 exactly if the buffer has less than 315 bytes, or if the entries do not fit; of the entries of a call the latter never holds (Longest)
 abbrev pub WriterRefuses : Type 0
 WriterRefuses =
     (entries : Entries) (account : ℕ) (buffer : List ℕ)
-    → given (writeOf entries account buffer .answer) .refusal
+    → saidOfWriting (writeOf entries account buffer .answer) .refusal
     ≡ firstOf (test (ltb (length buffer) 315) 4 ∷ test (ltb (length buffer) (lengthsIn (take (entries .count) (entries .at)))) 4 ∷ [])
 
 abbrev pub WriterStays : Type 0
@@ -24,4 +25,4 @@ WriterStays = (entries : Entries) (account : ℕ) (buffer : List ℕ) → Stays 
 
 -- what is said of the reader's answer tells the answers apart
 abbrev pub ReadingsApart : Type 0
-ReadingsApart = (r s : EntryReading) → Answers′.given r ≡ Answers′.given s → r ≡ s
+ReadingsApart = (r s : EntryReading) → Answers′.saidOfEntry r ≡ Answers′.saidOfEntry s → r ≡ s

@@ -8,13 +8,18 @@ use mathlib.Core.List.{List, [], _∷_, _++_, map}
 use mathlib.Core.Option.{none, some}
 use lib.ListN.{replicate}
 use Rattle.events.specs.declared.Event.the-variants.{Open, Withdraw, Deposit, Close}
-use Rattle.account.specs.declared.Told.{Told}
-use Rattle.account.specs.declared.Told.the-variants.{Accepted, Rejected, Held, Noted, Applied, Dropped}
-use Rattle.account.specs.declared.Entry.{Entry}
-use Rattle.account.specs.declared.Entries.{Entries}
+use Rattle.filing.specs.declared.Verdict.the-variants.{Accepted, Rejected, Held}
+use Rattle.filing.specs.declared.Told.{Told}
+use Rattle.filing.specs.declared.Told.the-variants.{Noted, Applied, Dropped}
+use Rattle.filing.specs.declared.Entry.{Entry}
+use Rattle.filing.specs.declared.Entries.{Entries}
 use Rattle.layout.specs.Answers as Writing′
 use Rattle.entry.specs.Bytes.{bytesOfEntry}
-use Rattle.entry.specs.Answers.{Given, given, readOf, writeOf}
+use Rattle.entry.specs.Answers.{SaidOfEntry, saidOfEntry, readOf, writeOf}
+use Rattle.entry.specs.Plain.{vote}
+
+abbrev pub entry : (transaction second : ℕ) → Told → Entry
+entry transaction second told = record { transaction = transaction; filed = record { second = second }; told = told }
 
 -- a row: an entry, its account, its length and its bytes
 pub record Vector : Type 0 where
@@ -26,7 +31,7 @@ pub record Vector : Type 0 where
 abbrev pub vector : (account transaction second : ℕ) → Told → (length′ : ℕ) (bytes : List ℕ) → Vector
 vector account transaction second told length′ bytes =
     record {
-      entry = record { transaction = transaction; second = second; told = told };
+      entry = entry transaction second told;
       account = account;
       length′ = length′;
       bytes = bytes;
@@ -34,13 +39,13 @@ vector account transaction second told length′ bytes =
 
 unfoldable pub table : List Vector
 table =
-    vector 15 0x1a2b3c4d 0x5e6f7081 (Accepted (Open 0x92a3b4c5) 0xd6e7) 18
+    vector 15 0x1a2b3c4d 0x5e6f7081 (vote Accepted (Open 0x92a3b4c5) 0xd6e7) 18
     (0x11 ∷ 0x1a ∷ 0x2b ∷ 0x3c ∷ 0x4d ∷ 0x00 ∷ 0x0f ∷ 0x5e ∷ 0x6f ∷ 0x70 ∷ 0x81 ∷ 0x01 ∷ 0x92 ∷ 0xa3 ∷ 0xb4 ∷ 0xc5 ∷ 0xd6 ∷ 0xe7 ∷ [])
     ∷
-    vector 14 0x1b2c3d4e 0x5f607182 (Rejected (Withdraw 0x93a4b5c6) 0xd7e8) 18
+    vector 14 0x1b2c3d4e 0x5f607182 (vote Rejected (Withdraw 0x93a4b5c6) 0xd7e8) 18
     (0x12 ∷ 0x1b ∷ 0x2c ∷ 0x3d ∷ 0x4e ∷ 0x00 ∷ 0x0e ∷ 0x5f ∷ 0x60 ∷ 0x71 ∷ 0x82 ∷ 0x02 ∷ 0x93 ∷ 0xa4 ∷ 0xb5 ∷ 0xc6 ∷ 0xd7 ∷ 0xe8 ∷ [])
     ∷
-    vector 13 0x1c2d3e4f 0x50617283 (Held (Deposit 0x94a5b6c7) 0xd8e9) 18
+    vector 13 0x1c2d3e4f 0x50617283 (vote Held (Deposit 0x94a5b6c7) 0xd8e9) 18
     (0x13 ∷ 0x1c ∷ 0x2d ∷ 0x3e ∷ 0x4f ∷ 0x00 ∷ 0x0d ∷ 0x50 ∷ 0x61 ∷ 0x72 ∷ 0x83 ∷ 0x03 ∷ 0x94 ∷ 0xa5 ∷ 0xb6 ∷ 0xc7 ∷ 0xd8 ∷ 0xe9 ∷ [])
     ∷
     vector 12 0x1d2e3f40 0x51627384 Noted 11
@@ -52,7 +57,7 @@ table =
     vector 10 0x1f203142 0x53647586 (Dropped (Deposit 0x96a7b8c9)) 16
     (0x16 ∷ 0x1f ∷ 0x20 ∷ 0x31 ∷ 0x42 ∷ 0x00 ∷ 0x0a ∷ 0x53 ∷ 0x64 ∷ 0x75 ∷ 0x86 ∷ 0x03 ∷ 0x96 ∷ 0xa7 ∷ 0xb8 ∷ 0xc9 ∷ [])
     ∷
-    vector 0 0 0 (Held Close 0) 18
+    vector 0 0 0 (vote Held Close 0) 18
     (0x13 ∷ 0x00 ∷ 0x00 ∷ 0x00 ∷ 0x00 ∷ 0x00 ∷ 0x00 ∷ 0x00 ∷ 0x00 ∷ 0x00 ∷ 0x00 ∷ 0x04 ∷ 0x00 ∷ 0x00 ∷ 0x00 ∷ 0x00 ∷ 0x00 ∷ 0x00 ∷ [])
     ∷
     vector 9 10 200 (Applied Close 0) 20
@@ -63,13 +68,13 @@ table =
 -- what a row comes to: the entry's bytes, and what the reader answers to them with one byte behind
 pub record Found : Type 0 where
   pub bytes : List ℕ
-  pub reading : Given
+  pub reading : SaidOfEntry
 
 abbrev pub found : Vector → Found
 found v =
     record {
       bytes = bytesOfEntry (v .account) (v .entry);
-      reading = given (readOf (v .bytes ++ (0xaa ∷ [])));
+      reading = saidOfEntry (readOf (v .bytes ++ (0xaa ∷ [])));
     }
 
 abbrev pub said : Vector → Found
@@ -95,16 +100,13 @@ unreads =
     []
 
 -- the entries of a call: three of seventeen places used
-abbrev pub entry : (transaction second : ℕ) → Told → Entry
-entry transaction second told = record { transaction = transaction; second = second; told = told }
-
 unfoldable pub call : Entries
 call =
     record {
       at =
           entry 1 2 Noted ∷
           entry 3 4 (Applied (Deposit 5) 6) ∷
-          entry 7 8 (Rejected (Withdraw 9) 10) ∷
+          entry 7 8 (vote Rejected (Withdraw 9) 10) ∷
           replicate 14 (entry 11 12 (Dropped Close));
       count = 3;
     }
@@ -118,9 +120,9 @@ callBytes =
 
 pub record VectorsHold : Type 0 where
   pub entries : map found table ≡ map said table
-  pub nothing : map (λ (bytes : List ℕ). given (readOf bytes)) unreads ≡ replicate 10 (record { entry = none; account = 0; length′ = 0 })
+  pub nothing : map (λ (bytes : List ℕ). saidOfEntry (readOf bytes)) unreads ≡ replicate 10 (record { entry = none; account = 0; length′ = 0 })
   -- written into 315 bytes, of which 11 + 20 + 18 are used, and refused by 314
-  pub answer : Writing′.given (writeOf call 8 (replicate 315 0xaa) .answer) ≡ record { refusal = none; length′ = 49 }
+  pub answer : Writing′.saidOfWriting (writeOf call 8 (replicate 315 0xaa) .answer) ≡ record { refusal = none; length′ = 49 }
   pub left : writeOf call 8 (replicate 315 0xaa) .buffer ≡ callBytes ++ replicate 266 0xaa
-  pub short : Writing′.given (writeOf call 8 (replicate 314 0xaa) .answer) ≡ record { refusal = some 4; length′ = 0 }
+  pub short : Writing′.saidOfWriting (writeOf call 8 (replicate 314 0xaa) .answer) ≡ record { refusal = some 4; length′ = 0 }
   pub shortLeft : writeOf call 8 (replicate 314 0xaa) .buffer ≡ replicate 314 0xaa

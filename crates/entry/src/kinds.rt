@@ -1,17 +1,19 @@
 // The table of entry kinds, and an entry as a row of numbers.
 ghost use mathlib.Core.Path.{_≡_};
-ghost use Rattle.layout.specs.Fields.{rowOf};
+ghost use Rattle.layout.specs.Fields.{rowOfKind};
 ghost use Rattle.layout.specs.Shapes.{padded, shapeOf};
-ghost use Rattle.entry.specs.Bytes.{entryRows, kindOf, numbersOf, toldBy};
+ghost use Rattle.entry.specs.Bytes.{entryRows, voteKind, kindOf, numbersOf, verdictBy, toldBy};
 ghost use Rattle.entry.specs.Numbers.{thenIn, withEvent};
-use account::Entry;
-use account::Told;
 use events::Event;
+use filing::Entry;
+use filing::Told;
+use filing::Verdict;
+use filing::Weighing;
 use layout::Shape;
 
-// The table of kinds: kind, transaction, account, second; then event kind and amount; then outcomes weighed, or balance.
+// The table of kinds: the heading; then event kind and amount; then outcomes weighed, or balance.
 pub(crate) fn shape_of(kind: u8) -> Shape
-    ensures { λ r. ⌜ r ≡ shapeOf (rowOf entryRows kind) ⌝ }
+    ensures { λ r. ⌜ r ≡ shapeOf (rowOfKind entryRows kind) ⌝ }
 {
     match kind {
         17 => VOTE,
@@ -56,19 +58,13 @@ pub(crate) fn numbers_of(entry: Entry, account: u16) -> [u32; layout::FIELDS]
     ensures { λ r. ⌜ r ≡ padded (numbersOf account entry) ⌝ }
 {
     let told = entry.told;
+    let filed = entry.filed;
     let then = then_of(told);
-    [
-        told_kind(told) as u32,
-        entry.transaction,
-        account as u32,
-        entry.second,
-        then.event,
-        then.amount,
-        then.number,
-        0,
-        0,
-        0,
-    ]
+    let mut numbers = layout::heading_numbers(told_kind(told), entry.transaction, account, filed);
+    numbers[4] = then.event;
+    numbers[5] = then.amount;
+    numbers[6] = then.number;
+    numbers
 }
 
 // What follows the heading, 0 where there is no such number.
@@ -76,9 +72,7 @@ fn then_of(told: Told) -> Then
     ensures { λ r. ⌜ r ≡ thenIn told ⌝ }
 {
     match told {
-        Told::Accepted(event, weighed) => with_event(event, weighed),
-        Told::Rejected(event, weighed) => with_event(event, weighed),
-        Told::Held(event, weighed) => with_event(event, weighed),
+        Told::Voted(event, weighing) => with_event(event, weighing.weighed),
         Told::Noted => Then {
             event: 0,
             amount: 0,
@@ -105,12 +99,24 @@ pub(crate) fn told_kind(told: Told) -> u8
     ensures { λ r. ⌜ r ≡ kindOf told ⌝ }
 {
     match told {
-        Told::Accepted(_, _) => 17,
-        Told::Rejected(_, _) => 18,
-        Told::Held(_, _) => 19,
+        Told::Voted(_, weighing) => {
+            let verdict = weighing.verdict;
+            vote_kind(verdict)
+        }
         Told::Noted => 20,
         Told::Applied(_, _) => 21,
         Told::Dropped(_) => 22,
+    }
+}
+
+// The kind of a vote.
+fn vote_kind(verdict: Verdict) -> u8
+    ensures { λ r. ⌜ r ≡ voteKind verdict ⌝ }
+{
+    match verdict {
+        Verdict::Accepted => 17,
+        Verdict::Rejected => 18,
+        Verdict::Held => 19,
     }
 }
 
@@ -119,11 +125,26 @@ pub(crate) fn told_of(kind: u8, event: Event, number: u32) -> Told
     ensures { λ r. ⌜ r ≡ toldBy kind event number ⌝ }
 {
     match kind {
-        17 => Told::Accepted(event, number),
-        18 => Told::Rejected(event, number),
-        19 => Told::Held(event, number),
         20 => Told::Noted,
         21 => Told::Applied(event, number),
-        _ => Told::Dropped(event),
+        22 => Told::Dropped(event),
+        _ => Told::Voted(
+            event,
+            Weighing {
+                verdict: verdict_of(kind),
+                weighed: number,
+            },
+        ),
+    }
+}
+
+// The verdict of a vote of a kind 17 to 19.
+fn verdict_of(kind: u8) -> Verdict
+    ensures { λ r. ⌜ r ≡ verdictBy kind ⌝ }
+{
+    match kind {
+        17 => Verdict::Accepted,
+        18 => Verdict::Rejected,
+        _ => Verdict::Held,
     }
 }

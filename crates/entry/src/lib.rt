@@ -3,7 +3,7 @@ mod kinds;
 mod reader;
 mod writer;
 
-use account::Entry;
+use filing::Entry;
 pub use reader::read_entry;
 pub use writer::write_entries;
 

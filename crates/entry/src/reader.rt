@@ -2,11 +2,11 @@
 ghost use mathlib.Core.Path.{_≡_};
 ghost use Rattle.events.specs.Kinds.{eventOf};
 ghost use Rattle.entry.specs.Bytes.{entryBy};
-ghost use Rattle.entry.specs.Answers.{eventFits, readOf};
+ghost use Rattle.entry.specs.Answers.{eventFits, foundIf, readOf};
 use crate::EntryReading;
 use crate::kinds;
-use account::Entry;
 use events::Event;
+use filing::Entry;
 
 // The entry that the bytes begin with, by the layout alone; bytes after it are not looked at.
 pub fn read_entry(bytes: &[u8]) -> EntryReading
@@ -25,8 +25,21 @@ pub fn read_entry(bytes: &[u8]) -> EntryReading
     if numbers[2] > layout::LAST_ACCOUNT as u32 {
         return EntryReading::Nothing;
     }
-    if (widths[4] == 0) | event_fits(numbers[4], numbers[5]) {
-        EntryReading::Found(entry_of(kind, numbers), numbers[2] as u16, shape.whole)
+    let fits = (widths[4] == 0) | event_fits(numbers[4], numbers[5]);
+    found_if(
+        fits,
+        entry_of(kind, numbers),
+        numbers[2] as u16,
+        shape.whole,
+    )
+}
+
+// The entry is found if it fits.
+fn found_if(fits: bool, entry: Entry, account: u16, whole: usize) -> EntryReading
+    ensures { λ r. ⌜ r ≡ foundIf fits entry account whole ⌝ }
+{
+    if fits {
+        EntryReading::Found(entry, account, whole)
     } else {
         EntryReading::Nothing
     }
@@ -45,7 +58,7 @@ fn entry_of(kind: u8, numbers: [u32; layout::FIELDS]) -> Entry
 {
     Entry {
         transaction: numbers[1],
-        second: numbers[3],
+        filed: layout::filed_from(numbers),
         told: kinds::told_of(kind, event_of(numbers[4], numbers[5]), numbers[6]),
     }
 }

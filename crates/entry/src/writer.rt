@@ -3,12 +3,12 @@ ghost use mathlib.Core.Path.{_≡_};
 ghost use Prim.Native.Nat.{_≤_, min};
 ghost use lib.Dec.{leb};
 ghost use lib.Seq.{sets};
-ghost use Rattle.account.specs.Steps.{most};
+ghost use Rattle.filing.specs.Entries.{most};
 ghost use Rattle.entry.specs.Bytes.{bytesOfEntry, lengthOfTold, wholesOf, listOf};
 ghost use Rattle.entry.specs.Answers.{writeOf};
 use crate::kinds;
-use account::Entries;
-use account::Entry;
+use filing::Entries;
+use filing::Entry;
 use layout::Writing;
 
 // Writes the entries of a call of that account, one after the other, to the beginning of a buffer.

@@ -33,4 +33,5 @@ forms-hold =
             seventeen = length-filled entryOf blankEntry 17 xs;
           };
       only = λ x. record { count = refl; used = refl; unused = refl; seventeen = λ h. refl };
+      tests = record { undecided = refl; accepted = refl; held = refl };
     }

@@ -3,7 +3,7 @@
 use Prim.Native.Nat.{ℕ, _-_, _≤_}
 use mathlib.Core.Path.{_≡_}
 use mathlib.Core.Logic.{_↔_}
-use mathlib.Core.Bool.{true}
+use mathlib.Core.Bool.{true, false}
 use mathlib.Core.List.{List, [], _∷_, map}
 use lib.ListN.{length, take, drop, replicate}
 use Rattle.rule.specs.Rule as rule
@@ -17,8 +17,8 @@ use Rattle.filing.specs.declared.Weighing.{Weighing}
 use Rattle.filing.specs.declared.Told.the-variants.{Voted, Noted, Applied, Dropped}
 use Rattle.filing.specs.declared.Entry.{Entry}
 use Rattle.filing.specs.declared.Entries.{Entries}
-use Rattle.filing.specs.Slots.{RuleSlot, slotOf, placeOf, committedSlot, isBlank}
-use Rattle.filing.specs.Entries.{RuleEntry, weighingOf, weighingIn, entryOf, entriesOf, onlyEntry}
+use Rattle.filing.specs.Slots.{RuleSlot, isUndecided, slotOf, placeOf, committedSlot, isBlank}
+use Rattle.filing.specs.Entries.{RuleEntry, isAccepted, isHeld, weighingOf, weighingIn, entryOf, entriesOf, onlyEntry}
 
 -- each field of a slot in the place's own
 pub record SlotForm : Type 0 where
@@ -52,9 +52,16 @@ pub record EntriesForm (xs : List RuleEntry) (entries : Entries) : Type 0 where
   pub unused : drop (length xs) (entries .at) ≡ replicate (17 - length xs) (record { transaction = 0; filed = record { second = 0 }; told = Noted })
   pub seventeen : length xs ≤ 17 → length (entries .at) ≡ 17
 
+-- what is asked of a decision and of a verdict
+pub record TestForm : Type 0 where
+  pub undecided : map isUndecided (Undecided ∷ Committed ∷ []) ≡ true ∷ false ∷ []
+  pub accepted : map isAccepted (Accepted ∷ Rejected ∷ Held ∷ []) ≡ true ∷ false ∷ false ∷ []
+  pub held : map isHeld (Accepted ∷ Rejected ∷ Held ∷ []) ≡ false ∷ false ∷ true ∷ []
+
 pub record FormsHold : Type 0 where
   pub slots : SlotForm
   pub entry : (t : ℕ) (g : Filed) (e : Event) (n : ℕ) → EntryForm t g e n
   pub weighing : WeighingForm
   pub entries : (xs : List RuleEntry) → EntriesForm xs (entriesOf xs)
   pub only : (x : RuleEntry) → EntriesForm (x ∷ []) (onlyEntry (entryOf x))
+  pub tests : TestForm

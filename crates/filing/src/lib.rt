@@ -59,9 +59,7 @@ pub struct Entries {
 
 impl Filed {
     // What is filed in a blank place.
-    pub const BLANK: Filed = Filed {
-        second: 0,
-    };
+    pub const BLANK: Filed = Filed { second: 0 };
 
     // Whether it is what a blank place has.
     pub fn is_blank(self) -> bool
@@ -227,9 +225,6 @@ impl Entries {
     {
         let mut at = [Entry::BLANK; Entries::MOST];
         at[0] = entry;
-        Entries {
-            at,
-            count: 1,
-        }
+        Entries { at, count: 1 }
     }
 }

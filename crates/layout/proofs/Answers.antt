@@ -9,14 +9,14 @@ use lib.ListN.{length, drop, length-append, length-drop}
 use lib.Seq.{drop-at}
 use Rattle.layout.specs.declared.Writing.{Writing}
 use Rattle.layout.specs.declared.Writing.the-variants.{Written, Refused}
-use Rattle.layout.specs.Answers.{Given, given, Wrote, wroteOver, refusedWith, Stays}
+use Rattle.layout.specs.Answers.{SaidOfWriting, saidOfWriting, Wrote, wroteOver, refusedWith, Stays}
 
 -- what is said of an answer tells the answers apart
-pub answers-apart : (r s : Writing) → given r ≡ given s → r ≡ s
-answers-apart (Written n) (Written k) e = ap Written (ap (λ (g : Given). g .length′) e)
-answers-apart (Written n) (Refused k) e = let f = ap (λ (g : Given). g .refusal) e in let z : _≡_ {A = ℕ} 0 1 = cc in absurd (omega arith)
-answers-apart (Refused n) (Written k) e = let f = ap (λ (g : Given). g .refusal) e in let z : _≡_ {A = ℕ} 0 1 = cc in absurd (omega arith)
-answers-apart (Refused n) (Refused k) e = let f = ap (λ (g : Given). g .refusal) e in cc
+pub answers-apart : (r s : Writing) → saidOfWriting r ≡ saidOfWriting s → r ≡ s
+answers-apart (Written n) (Written k) e = ap Written (ap (λ (g : SaidOfWriting). g .length′) e)
+answers-apart (Written n) (Refused k) e = let f = ap (λ (g : SaidOfWriting). g .refusal) e in let z : _≡_ {A = ℕ} 0 1 = cc in absurd (omega arith)
+answers-apart (Refused n) (Written k) e = let f = ap (λ (g : SaidOfWriting). g .refusal) e in let z : _≡_ {A = ℕ} 0 1 = cc in absurd (omega arith)
+answers-apart (Refused n) (Refused k) e = let f = ap (λ (g : SaidOfWriting). g .refusal) e in cc
 
 pub refused-stays : (number : ℕ) (buffer : List ℕ) → Stays buffer (refusedWith number buffer)
 refused-stays number buffer = record { size = refl; rest = refl }

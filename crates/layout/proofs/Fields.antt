@@ -9,7 +9,7 @@ use mathlib.Core.List.{List, [], _∷_, _++_, append-assoc}
 use lib.ListN.{length, getD, take, drop, set, length-append}
 use lib.Seq.{sets, take-add, drop-drop, drop-cons, take-suc-set, append-snoc}
 use Rattle.layout.specs.Number.{bytesOf, numberAt, AreBytes}
-use Rattle.layout.specs.Fields.{written, numbersAt, total, heading, lastAccount}
+use Rattle.layout.specs.Fields.{written, numbersAt, total}
 use Rattle.layout.specs.Inverse.{NumbersRead, NumbersWritten, Fit, none, one, FieldsRead, FieldsWritten}
 use Rattle.layout.proofs.Stores.{sets-append}
 use Rattle.layout.proofs.Numbers.{length-bytesOf, numberAt-fits, numberAt-bytesOf, bytesOf-numberAt}
@@ -77,13 +77,6 @@ pub read-one : (ws ns bytes : List ℕ) (from i width : ℕ) → i < length ws �
 unfolding numbersAt
 read-one ws ns bytes from i width h k w =
     rw (drop-cons ws i 0 h, ← w, add-one i, take-suc-set ns i (numberAt bytes from width) k) (append-snoc (take i ns) (numberAt bytes from width) (numbersAt (drop (suc i) ws) bytes (from + width)))
-
--- a heading whose numbers fit, and what follows it
-pub fit-heading : {then numbers : List ℕ} (kind transaction account second : ℕ) → kind < 256 ^ 1 → transaction < 256 ^ 4 → account ≤ lastAccount
-    → second < 256 ^ 4 → Fit then numbers → Fit (heading ++ then) (kind ∷ transaction ∷ account ∷ second ∷ numbers)
-fit-heading kind transaction account second k t a s fit =
-    let a′ : account < 256 ^ 2 = omega arith in
-    one k (one t (one a′ (one s fit)))
 
 pub numbers-read : NumbersRead
 numbers-read = numberAt-bytesOf

@@ -4,6 +4,8 @@ pub mod Numbers
 pub mod Fields
 pub mod Shapes
 pub mod Tables
+pub mod Reading
 pub mod Answers
 pub mod Plain
+pub mod Heading
 pub mod Forms

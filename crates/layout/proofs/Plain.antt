@@ -57,9 +57,9 @@ bytes-highest-first width number = record { length′ = length-bytesOf width num
 
 pub heading-plain : HeadingPlain
 unfolding written
-heading-plain kind transaction account second =
+heading-plain kind transaction account g =
     let n = numbers-plain [] 0 in
-    rw (n kind .bytes1, n transaction .bytes4, n account .bytes2, n second .bytes4)
+    rw (n kind .bytes1, n transaction .bytes4, n account .bytes2, n (g .second) .bytes4)
 
 pub laid-over-plain : LaidOverPlain
 laid-over-plain bytes buffer =

@@ -13,7 +13,7 @@ use lib.Dec.{eqb, ltb}
 use lib.ListN.{length, getD, take, drop, set, replicate, length-map, List·getD-map, List·getD-append, List·getD-eq-default}
 use lib.Seq.{sets, drop-length, getD-append-add}
 use Rattle.layout.specs.Number.{bytesOf, numberAt}
-use Rattle.layout.specs.Fields.{Row, rowOf, wholeOf, widthsOf, heading, written, numbersAt, total}
+use Rattle.layout.specs.Fields.{KindRow, rowOfKind, wholeOf, widthsOf, heading, written, numbersAt, total}
 use Rattle.layout.specs.Shapes.{bytesIn, padded, shapeOf}
 use Rattle.layout.proofs.Fields.{put-one, read-one, written-append}
 
@@ -89,16 +89,16 @@ padded-written ws ns h =
 
 -- ---- the rows of a table
 
-pub shape-whole : (found : Option Row) → shapeOf found .whole ≡ wholeOf found
+pub shape-whole : (found : Option KindRow) → shapeOf found .whole ≡ wholeOf found
 shape-whole none = refl
 shape-whole (some r) = refl
 
 -- the widths of every row make up its length, and are such as count as they are
-pub record Hold (rows : List Row) : Type 0 where
-  pub sums : map (λ (r : Row). total (heading ++ r .then)) rows ≡ map (λ (r : Row). r .whole) rows
-  pub widths : map (λ (r : Row). map bytesIn (r .then)) rows ≡ map (λ (r : Row). r .then) rows
+pub record Hold (rows : List KindRow) : Type 0 where
+  pub sums : map (λ (r : KindRow). total (heading ++ r .then)) rows ≡ map (λ (r : KindRow). r .whole) rows
+  pub widths : map (λ (r : KindRow). map bytesIn (r .then)) rows ≡ map (λ (r : KindRow). r .then) rows
 
-pub record Held (found : Option Row) : Type 0 where
+pub record Held (found : Option KindRow) : Type 0 where
   pub sum : total (widthsOf found) ≡ wholeOf found
   pub widths : map bytesIn (shapeOf found .widths) ≡ padded (widthsOf found)
 
@@ -107,12 +107,12 @@ bytes-in-zeros zero = refl
 bytes-in-zeros (suc k) = ap (_∷_ 0) (bytes-in-zeros k)
 
 -- so it is with the row that was found
-pub found-holds : (rows : List Row) (kind : ℕ) → Hold rows → 0 < wholeOf (rowOf rows kind) → Held (rowOf rows kind)
-unfolding rowOf
+pub found-holds : (rows : List KindRow) (kind : ℕ) → Hold rows → 0 < wholeOf (rowOfKind rows kind) → Held (rowOfKind rows kind)
+unfolding rowOfKind
 found-holds [] kind h p = absurd (omega arith)
 found-holds (r ∷ rows) kind h p = go (eqb kind (r .kind)) (found-holds rows kind (record { sums = cc (h .sums); widths = cc (h .widths) })) p
   where
-    go : (b : Bool) → (0 < wholeOf (rowOf rows kind) → Held (rowOf rows kind)) → 0 < wholeOf (cond b (some r) (rowOf rows kind)) → Held (cond b (some r) (rowOf rows kind))
+    go : (b : Bool) → (0 < wholeOf (rowOfKind rows kind) → Held (rowOfKind rows kind)) → 0 < wholeOf (cond b (some r) (rowOfKind rows kind)) → Held (cond b (some r) (rowOfKind rows kind))
     go true rest p =
         let own : map bytesIn (r .then) ≡ r .then = cc (h .widths) in
         record { sum = cc (h .sums); widths = rw (map-append, own, bytes-in-zeros) }

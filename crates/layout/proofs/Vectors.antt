@@ -7,4 +7,4 @@ use Rattle.layout.specs.Vectors.{VectorsHold}
 
 pub vectors : VectorsHold
 unfolding bytesOf numberAt written
-vectors = record { bytes = refl; number = refl; heading′ = refl; account = refl; over = refl; first = λ a b c. refl }
+vectors = record { bytes = refl; number = refl; heading′ = refl; filed = refl; account = refl; over = refl }

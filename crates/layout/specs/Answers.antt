@@ -2,21 +2,20 @@
 -- Assumes nothing.
 use Prim.Native.Nat.{ℕ}
 use mathlib.Core.Path.{_≡_}
-use mathlib.Core.Bool.{Bool, cond}
-use mathlib.Core.List.{List, [], _∷_, _++_}
+use mathlib.Core.List.{List, _++_}
 use mathlib.Core.Option.{Option, none, some}
 use lib.ListN.{length, drop}
 use Rattle.layout.specs.declared.Writing.{Writing}
 use Rattle.layout.specs.declared.Writing.the-variants.{Written, Refused}
 
 -- what a writer's answer says: the number of its refusal, if it is one, and the length written, which is 0 for a refusal
-pub record Given : Type 0 where
+pub record SaidOfWriting : Type 0 where
   pub refusal : Option ℕ
   pub length′ : ℕ
 
-abbrev pub given : Writing → Given
-given (Written n) = record { refusal = none; length′ = n }
-given (Refused number) = record { refusal = some number; length′ = 0 }
+abbrev pub saidOfWriting : Writing → SaidOfWriting
+saidOfWriting (Written n) = record { refusal = none; length′ = n }
+saidOfWriting (Refused number) = record { refusal = some number; length′ = 0 }
 
 -- the answer and the buffer
 pub record Wrote : Type 0 where
@@ -37,17 +36,4 @@ refusedWith number buffer = record { answer = Refused number; buffer = buffer }
 -- bytes behind those that were written are as they were, all of them where the writer refuses (11.3)
 pub record Stays (buffer : List ℕ) (w : Wrote) : Type 0 where
   pub size : length (w .buffer) ≡ length buffer
-  pub rest : drop (given (w .answer) .length′) (w .buffer) ≡ drop (given (w .answer) .length′) buffer
-
--- a test and the number that is given if it holds
-pub record Test : Type 0 where
-  pub holds : Bool
-  pub number : ℕ
-
-abbrev pub test : (holds : Bool) (number : ℕ) → Test
-test holds number = record { holds = holds; number = number }
-
--- the number of the first test that holds, in their order
-abbrev pub firstOf : List Test → Option ℕ
-firstOf [] = none
-firstOf (t ∷ ts) = cond (t .holds) (some (t .number)) (firstOf ts)
+  pub rest : drop (saidOfWriting (w .answer) .length′) (w .buffer) ≡ drop (saidOfWriting (w .answer) .length′) buffer

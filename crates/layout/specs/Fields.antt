@@ -32,29 +32,29 @@ abbrev pub lastAccount : ℕ
 lastAccount = 15
 
 -- a row of a table of kinds: the kind, the whole length, and the widths of what follows the heading
-pub record Row : Type 0 where
+pub record KindRow : Type 0 where
   pub kind : ℕ
   pub whole : ℕ
   pub then : List ℕ
 
-abbrev pub row : (kind whole : ℕ) (then : List ℕ) → Row
-row kind whole then = record { kind = kind; whole = whole; then = then }
+abbrev pub kindRow : (kind whole : ℕ) (then : List ℕ) → KindRow
+kindRow kind whole then = record { kind = kind; whole = whole; then = then }
 
 -- the row of a kind, if the table has one
-unfoldable pub rowOf : List Row → (kind : ℕ) → Option Row
-rowOf [] kind = none
-rowOf (r ∷ rows) kind = cond (eqb kind (r .kind)) (some r) (rowOf rows kind)
+unfoldable pub rowOfKind : List KindRow → (kind : ℕ) → Option KindRow
+rowOfKind [] kind = none
+rowOfKind (r ∷ rows) kind = cond (eqb kind (r .kind)) (some r) (rowOfKind rows kind)
 
 -- the whole length that a row gives, and 0 where there is no row
-abbrev pub wholeOf : Option Row → ℕ
+abbrev pub wholeOf : Option KindRow → ℕ
 wholeOf none = 0
 wholeOf (some r) = r .whole
 
 -- the widths of what follows the heading,
-abbrev pub thenOf : Option Row → List ℕ
+abbrev pub thenOf : Option KindRow → List ℕ
 thenOf none = []
 thenOf (some r) = r .then
 
 -- and of all fields
-abbrev pub widthsOf : Option Row → List ℕ
+abbrev pub widthsOf : Option KindRow → List ℕ
 widthsOf found = heading ++ thenOf found

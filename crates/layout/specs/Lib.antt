@@ -1,6 +1,8 @@
 pub mod Number
 pub mod Fields
+pub mod Heading
 pub mod Shapes
+pub mod Reading
 pub mod Answers
 pub mod Inverse
 pub mod Plain

@@ -5,8 +5,10 @@ use Prim.Native.Nat.{ℕ, _+_, _*_, _-_, _/_, _%_, _^_, _≤_, _<_}
 use mathlib.Core.Path.{_≡_}
 use mathlib.Core.List.{List, [], _∷_, _++_}
 use lib.ListN.{length, getD}
+use Rattle.filing.specs.declared.Filed.{Filed}
 use Rattle.layout.specs.Number.{bytesOf, numberAt, AreBytes}
 use Rattle.layout.specs.Fields.{written, heading}
+use Rattle.layout.specs.Heading.{headingNumbers}
 use Rattle.layout.specs.Answers.{laidOver}
 
 -- the number in 2 bytes, and in 4
@@ -49,12 +51,19 @@ pub record Bytes (width number : ℕ) : Type 0 where
 abbrev pub BytesHighestFirst : Type 0
 BytesHighestFirst = (width number : ℕ) → Bytes width number
 
+-- what is filed in the bytes of a message or an entry: the second, in four bytes from the eighth on
+abbrev pub filedIn : (bytes : List ℕ) → Filed
+filedIn bytes = record { second = fourAt bytes 7 }
+
+-- transaction, account and second, highest byte first
+abbrev pub headingBytes : (transaction account : ℕ) → Filed → List ℕ
+headingBytes transaction account g = fourOf transaction ++ (twoOf account ++ fourOf (g .second))
+
 -- kind, transaction, account, second: 1, 4, 2 and 4 bytes, one after the other
 abbrev pub HeadingPlain : Type 0
 HeadingPlain =
-    (kind transaction account second : ℕ)
-    → written heading (kind ∷ transaction ∷ account ∷ second ∷ [])
-    ≡ kind % 256 ∷ (fourOf transaction ++ (twoOf account ++ fourOf second))
+    (kind transaction account : ℕ) (g : Filed)
+    → written heading (headingNumbers kind transaction account g) ≡ kind % 256 ∷ headingBytes transaction account g
 
 -- bytes laid over a buffer stand at its beginning, and behind them stands what stood there
 pub record Over (bytes buffer : List ℕ) : Type 0 where

@@ -7,7 +7,7 @@ use mathlib.Core.Option.{Option, none, some}
 use lib.Dec.{eqb}
 use lib.ListN.{length, replicate}
 use Rattle.layout.specs.declared.Shape.{Shape}
-use Rattle.layout.specs.Fields.{Row, heading}
+use Rattle.layout.specs.Fields.{KindRow, heading}
 
 -- a number has 1, 2 or 4 bytes, and none where its width is 0; any other width counts as 4
 abbrev pub bytesIn : (width : ℕ) → ℕ
@@ -18,6 +18,6 @@ abbrev pub padded : List ℕ → List ℕ
 padded numbers = numbers ++ replicate (10 - length numbers) 0
 
 -- the row of a table as the code holds it; all 0 where there is none
-abbrev pub shapeOf : Option Row → Shape
+abbrev pub shapeOf : Option KindRow → Shape
 shapeOf none = record { widths = replicate 10 0; whole = 0 }
 shapeOf (some r) = record { widths = padded (heading ++ r .then); whole = r .whole }

@@ -1,4 +1,4 @@
-// What messages and entries share of their bytes: numbers, highest byte first, and rows of them.
+// What messages and entries share of their bytes: numbers, highest byte first, rows of them, and the heading that a row begins with.
 // Every public function takes any buffer and any place: a byte past the end is not stored, and counts as 0 when it is read.
 ghost use mathlib.Core.Path.{_≡_};
 ghost use mathlib.Core.List.{map};
@@ -7,7 +7,9 @@ ghost use lib.Seq.{sets};
 ghost use Prim.Native.Nat.{_+_, _≤_, _<_, _^_};
 ghost use Rattle.layout.specs.Number.{bytesOf, numberAt};
 ghost use Rattle.layout.specs.Fields.{written, numbersAt};
-ghost use Rattle.layout.specs.Shapes.{bytesIn};
+ghost use Rattle.layout.specs.Heading.{headingNumbers, filedFrom};
+ghost use Rattle.layout.specs.Shapes.{bytesIn, padded};
+use filing::Filed;
 
 // The accounts are numbered from 0 to this one.
 pub const LAST_ACCOUNT: u16 = 15;
@@ -33,6 +35,31 @@ impl Shape {
 pub enum Writing {
     Written(usize),
     Refused(u8),
+}
+
+// The row of numbers of a heading, with 0 in the places behind it: what is filed is taken apart here.
+pub fn heading_numbers(kind: u8, transaction: u32, account: u16, filed: Filed) -> [u32; FIELDS]
+    ensures { λ r. ⌜ r ≡ padded (headingNumbers kind transaction account filed) ⌝ }
+{
+    [
+        kind as u32,
+        transaction,
+        account as u32,
+        filed.second,
+        0,
+        0,
+        0,
+        0,
+        0,
+        0,
+    ]
+}
+
+// What is filed, from the row of numbers of a message or an entry.
+pub fn filed_from(numbers: [u32; FIELDS]) -> Filed
+    ensures { λ r. ⌜ r ≡ filedFrom numbers ⌝ }
+{
+    Filed { second: numbers[3] }
 }
 
 // Stores a row of numbers from `at` on, each by its width.

@@ -8,16 +8,17 @@ use mathlib.Core.List.{List, []}
 use lib.ListN.{length, drop, getD}
 use Rattle.events.specs.declared.Event.the-variants.{Open, Withdraw, Deposit, Close}
 use Rattle.layout.specs.Number.{numberAt}
-use Rattle.layout.specs.Fields.{written, rowOf, wholeOf, numbersAt}
+use Rattle.layout.specs.Fields.{written, rowOfKind, wholeOf, numbersAt}
 use Rattle.events.specs.Kinds.{eventOf}
 use Rattle.layout.specs.Plain.{fourAt}
 use Rattle.layout.proofs.Tables.{present}
 use Rattle.layout.proofs.Plain.{numbers-plain}
+use Rattle.layout.proofs.Heading.{filed-plain}
 use Rattle.message.specs.declared.Message.{Message}
 use Rattle.message.specs.declared.Message.the-variants.{Request, Commit, Abort}
 use Rattle.message.specs.declared.Reading.the-variants as Reading′
 use Rattle.message.specs.Bytes.{messages, kindOf, headingOf, messageBy, bytesOfMessage, lengthOfMessage}
-use Rattle.message.specs.Answers.{given, readOf}
+use Rattle.message.specs.Answers.{saidOfReading, readOf}
 use Rattle.message.specs.Plain.{MessagesPlain, lengthIn, headingIn, Stands, Begins, ReaderTakes, WriterReadBack}
 use Rattle.message.proofs.Shapes.{shaped}
 use Rattle.message.proofs.Reader.{headingAt, read-taken}
@@ -26,7 +27,7 @@ use Rattle.message.proofs.Inverse.{taken-of, reads-written}
 use Rattle.message.proofs.Refusals.{readings-apart}
 
 pub messages-plain : MessagesPlain
-unfolding bytesOfMessage lengthOfMessage rowOf messages written
+unfolding bytesOfMessage lengthOfMessage rowOfKind messages written
 messages-plain h a =
     let n = numbers-plain [] 0 in
     record {
@@ -40,7 +41,7 @@ messages-plain h a =
             n 6 .bytes1,
             n (h .transaction) .bytes4,
             n (h .account) .bytes2,
-            n (h .second) .bytes4,
+            n (h .filed .second) .bytes4,
             n a .bytes4,
           );
       lengths = refl;
@@ -49,12 +50,12 @@ messages-plain h a =
     }
 
 heading-plain : (bytes : List ℕ) → headingIn bytes ≡ headingAt bytes
-heading-plain bytes = rw (numbers-plain bytes 1 0 .read4, numbers-plain bytes 5 0 .read2, numbers-plain bytes 7 0 .read4)
+heading-plain bytes = rw (numbers-plain bytes 1 0 .read4, numbers-plain bytes 5 0 .read2, filed-plain bytes)
 
 -- the message of the bytes' kind stands in them, and is as long as the kind says
-module _ (bytes : List ℕ) (kind : ℕ) (p : 0 < wholeOf (rowOf messages kind)) where
+module _ (bytes : List ℕ) (kind : ℕ) (p : 0 < wholeOf (rowOfKind messages kind)) where
   stands-by : kind ≡ numberAt bytes 0 1 → Stands bytes (messageBy kind (headingAt bytes) (numberAt bytes 11 4))
-  unfolding rowOf messages messageBy eventOf
+  unfolding rowOfKind messages messageBy eventOf
   stands-by e =
       let first : (k : ℕ) → k ≡ numberAt bytes 0 1 → getD bytes 0 0 ≡ k = λ k e. sym (numbers-plain bytes 0 0 .read1) ∙ sym e in
       let h = heading-plain bytes in
@@ -67,11 +68,11 @@ module _ (bytes : List ℕ) (kind : ℕ) (p : 0 < wholeOf (rowOf messages kind))
       )
       p e
 
-  length-by : wholeOf (rowOf messages kind) ≡ lengthIn (messageBy kind (headingAt bytes) (numberAt bytes 11 4))
-  unfolding rowOf messages messageBy eventOf
+  length-by : wholeOf (rowOfKind messages kind) ≡ lengthIn (messageBy kind (headingAt bytes) (numberAt bytes 11 4))
+  unfolding rowOfKind messages messageBy eventOf
   length-by =
       present
-      (λ (k : ℕ). wholeOf (rowOf messages k) ≡ lengthIn (messageBy k (headingAt bytes) (numberAt bytes 11 4)))
+      (λ (k : ℕ). wholeOf (rowOfKind messages k) ≡ lengthIn (messageBy k (headingAt bytes) (numberAt bytes 11 4)))
       messages kind (refl, (refl, (refl, (refl, (refl, (refl, tt)))))) p
 
 -- what was taken stands at the beginning
@@ -81,7 +82,7 @@ taken-begins bytes m whole e =
     let kind = numberAt bytes 0 1 in
     let t = taken-of bytes m whole e in
     let z : length bytes ≡ 0 → ⊥ = λ n. omega (arith, t .positive, t .enough) in
-    let r = read-taken bytes kind (wholeOf (rowOf messages kind)) z refl refl (λ n. omega (arith, t .positive)) (t .enough) (t .account) in
+    let r = read-taken bytes kind (wholeOf (rowOfKind messages kind)) z refl refl (λ n. omega (arith, t .positive)) (t .enough) (t .account) in
     let m′ : messageBy kind (headingAt bytes) (numberAt bytes 11 4) ≡ m = cc (sym r ∙ e) in
     record {
       stands = rw m′ at (stands-by bytes kind (t .positive) refl);
@@ -120,7 +121,7 @@ begins-taken bytes m whole b =
 pub reader-takes : ReaderTakes
 reader-takes bytes m whole = (
   (λ e. taken-begins bytes m whole (readings-apart (readOf bytes) (Reading′.Message m whole) e)),
-  (λ b. ap given (begins-taken bytes m whole b)),
+  (λ b. ap saidOfReading (begins-taken bytes m whole b)),
 )
 
 pub writer-read-back : WriterReadBack

@@ -4,10 +4,10 @@
 use Prim.Native.Nat.{_<_, _^_}
 use mathlib.Core.Path.{_≡_, refl}
 use lib.Dec.{lit<}
-use mathlib.Core.List.{_∷_}
-use lib.ListN.{length, getD, replicate}
+use lib.ListN.{length, getD, set}
 use Rattle.events.specs.declared.Event.the-variants.{Open, Withdraw, Deposit, Close}
-use Rattle.layout.specs.Fields.{rowOf, thenOf, widthsOf, total}
+use Rattle.layout.specs.Fields.{rowOfKind, thenOf, widthsOf, total}
+use Rattle.layout.specs.Heading.{headingNumbers}
 use Rattle.layout.specs.Shapes.{padded}
 use Rattle.events.specs.Kinds.{eventOf}
 use Rattle.layout.specs.Inverse.{Fit, none, one}
@@ -25,20 +25,20 @@ pub record Shaped (m : Message) : Type 0 where
   -- it is what its numbers say
   pub numbers : messageOf (numbersOf m) ≡ m
   -- it has a number for each width, and 0 in the places behind them
-  pub paired : length (widthsOf (rowOf messages (kindOf m))) ≡ length (numbersOf m)
-  pub places : kindOf m ∷ headingOf m .transaction ∷ headingOf m .account ∷ headingOf m .second ∷ amountIn m ∷ replicate 5 0 ≡ padded (numbersOf m)
+  pub paired : length (widthsOf (rowOfKind messages (kindOf m))) ≡ length (numbersOf m)
+  pub places : set (padded (headingNumbers (kindOf m) (headingOf m .transaction) (headingOf m .account) (headingOf m .filed))) 4 (amountIn m) ≡ padded (numbersOf m)
   -- the widths make up the whole length
-  pub whole : total (widthsOf (rowOf messages (kindOf m))) ≡ lengthOfMessage m
+  pub whole : total (widthsOf (rowOfKind messages (kindOf m))) ≡ lengthOfMessage m
   -- which is the plain one
   pub length′ : lengthOfMessage m ≡ lengthIn m
   -- its amount stands after the heading, where it has one
   pub amounts : amountIn m ≡ getD (amountsOf m) 0 0
   -- the kind is a byte, and an amount that fits four bytes fits its width
   pub kind : kindOf m < 256 ^ 1
-  pub amount : amountIn m < 256 ^ 4 → Fit (thenOf (rowOf messages (kindOf m))) (amountsOf m)
+  pub amount : amountIn m < 256 ^ 4 → Fit (thenOf (rowOfKind messages (kindOf m))) (amountsOf m)
 
 pub shaped : (m : Message) → Shaped m
-unfolding rowOf messages messageBy eventOf lengthOfMessage
+unfolding rowOfKind messages messageBy eventOf lengthOfMessage
 shaped (Request h (Open a)) = record { numbers = refl; paired = refl; places = refl; whole = refl; length′ = refl; amounts = refl; kind = lit< tt; amount = λ p. one p none }
 shaped (Request h (Withdraw a)) = record { numbers = refl; paired = refl; places = refl; whole = refl; length′ = refl; amounts = refl; kind = lit< tt; amount = λ p. one p none }
 shaped (Request h (Deposit a)) = record { numbers = refl; paired = refl; places = refl; whole = refl; length′ = refl; amounts = refl; kind = lit< tt; amount = λ p. one p none }

@@ -8,12 +8,12 @@ use borrow.Author.Tests.{lt-ltb, le-ltb}
 use lib.ListN.{length}
 use lib.Seq.{sets}
 use Rattle.layout.specs.declared.Writing.the-variants as Writing′
-use Rattle.layout.specs.Fields.{rowOf, widthsOf, written, lastAccount}
+use Rattle.layout.specs.Fields.{rowOfKind, widthsOf, written, lastAccount}
 use Rattle.layout.specs.Shapes.{bytesIn, padded, shapeOf}
 use Rattle.layout.specs.Answers.{wroteOver, refusedWith}
 use Rattle.layout.proofs.Stores.{laid-over}
 use Rattle.layout.proofs.Fields.{length-written}
-use Rattle.layout.proofs.Shapes.{found-holds, padded-written}
+use Rattle.layout.proofs.Reading.{shape-written}
 use Rattle.message.specs.declared.Message.{Message}
 use Rattle.message.specs.Bytes.{messages, kindOf, headingOf, numbersOf, bytesOfMessage, lengthOfMessage}
 use Rattle.message.specs.Answers.{writeOf}
@@ -21,15 +21,14 @@ use Rattle.message.proofs.Shapes.{rows-hold, shaped}
 
 pub length-message : (m : Message) → length (bytesOfMessage m) ≡ lengthOfMessage m
 unfolding bytesOfMessage
-length-message m = length-written (widthsOf (rowOf messages (kindOf m))) (numbersOf m) (shaped m .paired) ∙ shaped m .whole
+length-message m = length-written (widthsOf (rowOfKind messages (kindOf m))) (numbersOf m) (shaped m .paired) ∙ shaped m .whole
 
 -- stored by the row of its kind, places behind it and all, it is its bytes
-row-bytes : (m : Message) → written (map bytesIn (shapeOf (rowOf messages (kindOf m)) .widths)) (padded (numbersOf m)) ≡ bytesOfMessage m
+row-bytes : (m : Message) → written (map bytesIn (shapeOf (rowOfKind messages (kindOf m)) .widths)) (padded (numbersOf m)) ≡ bytesOfMessage m
 unfolding bytesOfMessage lengthOfMessage
 row-bytes m =
-    let found = rowOf messages (kindOf m) in
     let whole : 0 < lengthOfMessage m = rw (← shaped m .whole) (omega arith) in
-    rw (found-holds messages (kindOf m) rows-hold whole .widths) (padded-written (widthsOf found) (numbersOf m) (shaped m .paired))
+    shape-written messages (kindOf m) rows-hold whole (numbersOf m) (shaped m .paired)
 
 pub write-account : (m : Message) (l : List ℕ) → lastAccount < headingOf m .account → writeOf m l ≡ refusedWith 3 l
 unfolding writeOf
@@ -44,7 +43,7 @@ unfolding writeOf
 write-taken m l a h = rw (le-ltb lastAccount (headingOf m .account) a, le-ltb (length l) (lengthOfMessage m) h)
 
 pub write-stored : (m : Message) (l l′ : List ℕ) → headingOf m .account ≤ lastAccount → lengthOfMessage m ≤ length l
-    → l′ ≡ sets l 0 (written (map bytesIn (shapeOf (rowOf messages (kindOf m)) .widths)) (padded (numbersOf m)))
+    → l′ ≡ sets l 0 (written (map bytesIn (shapeOf (rowOfKind messages (kindOf m)) .widths)) (padded (numbersOf m)))
     → (Writing′.Written (lengthOfMessage m) ≡ writeOf m l .answer) × (l′ ≡ writeOf m l .buffer)
 write-stored m l l′ a h e =
     let t : writeOf m l ≡ wroteOver (bytesOfMessage m) l = write-taken m l a h in

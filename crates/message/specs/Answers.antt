@@ -5,9 +5,10 @@ use mathlib.Core.Bool.{cond}
 use mathlib.Core.List.{List}
 use mathlib.Core.Option.{Option, none, some}
 use lib.Dec.{eqb, ltb}
-use lib.ListN.{length, getD}
+use lib.ListN.{length}
 use Rattle.layout.specs.Number.{numberAt}
-use Rattle.layout.specs.Fields.{Row, rowOf, widthsOf, numbersAt, lastAccount}
+use Rattle.layout.specs.Fields.{KindRow, rowOfKind, lastAccount}
+use Rattle.layout.specs.Reading.{Reader, readFields, readRow}
 use Rattle.layout.specs.Answers.{Wrote, wroteOver, refusedWith}
 use Rattle.message.specs.declared.Message.{Message}
 use Rattle.message.specs.declared.Reading.{Reading}
@@ -15,28 +16,34 @@ use Rattle.message.specs.declared.Reading.the-variants as Reading′
 use Rattle.message.specs.Bytes.{messages, headingOf, messageOf, bytesOfMessage, lengthOfMessage}
 
 -- what the reader's answer says: the number of its refusal, if it is one, how many bytes it consumed, 0 for a refusal, and the message
-pub record Given : Type 0 where
+pub record SaidOfReading : Type 0 where
   pub refusal : Option ℕ
   pub consumed : ℕ
   pub message : Option Message
 
-abbrev pub given : Reading → Given
-given (Reading′.Message m whole) = record { refusal = none; consumed = whole; message = some m }
-given (Reading′.Refused number) = record { refusal = some number; consumed = 0; message = none }
+abbrev pub saidOfReading : Reading → SaidOfReading
+saidOfReading (Reading′.Message m whole) = record { refusal = none; consumed = whole; message = some m }
+saidOfReading (Reading′.Refused number) = record { refusal = some number; consumed = 0; message = none }
 
--- 3: the register has no such account
+-- 2: no message has this kind; 1: bytes are missing; 3: the register has no such account
+abbrev pub messageReader : Reader Reading
+messageReader =
+    record {
+      unknown = Reading′.Refused 2;
+      short = Reading′.Refused 1;
+      elsewhere = Reading′.Refused 3;
+      taken = λ (whole : ℕ) (numbers : List ℕ). Reading′.Message (messageOf numbers) whole;
+    }
+
 abbrev pub readNumbers : (whole : ℕ) (numbers : List ℕ) → Reading
-readNumbers whole numbers = cond (ltb lastAccount (getD numbers 2 0)) (Reading′.Refused 3) (Reading′.Message (messageOf numbers) whole)
+readNumbers whole numbers = readFields messageReader whole numbers
 
--- 2: no message has this kind; 1: bytes are missing
-abbrev pub readKind : Option Row → (bytes : List ℕ) → Reading
-readKind none bytes = Reading′.Refused 2
-readKind (some r) bytes =
-    cond (ltb (length bytes) (r .whole)) (Reading′.Refused 1) (readNumbers (r .whole) (numbersAt (widthsOf (some r)) bytes 0))
+abbrev pub readKind : Option KindRow → (bytes : List ℕ) → Reading
+readKind found bytes = readRow messageReader found bytes
 
 -- the reader: 1 where there is no byte; else the kind is looked at before the length, and both before the account (10.2)
 unfoldable pub readOf : (bytes : List ℕ) → Reading
-readOf bytes = cond (eqb (length bytes) 0) (Reading′.Refused 1) (readKind (rowOf messages (numberAt bytes 0 1)) bytes)
+readOf bytes = cond (eqb (length bytes) 0) (Reading′.Refused 1) (readKind (rowOfKind messages (numberAt bytes 0 1)) bytes)
 
 -- the writer: the account is looked at before the buffer
 unfoldable pub writeOf : Message → (buffer : List ℕ) → Wrote

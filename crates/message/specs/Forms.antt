@@ -5,8 +5,8 @@ use mathlib.Core.Path.{_≡_}
 use mathlib.Core.Option.{none, some}
 use Rattle.message.specs.declared.Message.{Message}
 use Rattle.message.specs.declared.Reading.the-variants as Reading′
-use Rattle.message.specs.Answers.{given}
+use Rattle.message.specs.Answers.{saidOfReading}
 
 pub record ReadingForm : Type 0 where
-  pub message : (m : Message) (whole : ℕ) → given (Reading′.Message m whole) ≡ record { refusal = none; consumed = whole; message = some m }
-  pub refused : (number : ℕ) → given (Reading′.Refused number) ≡ record { refusal = some number; consumed = 0; message = none }
+  pub message : (m : Message) (whole : ℕ) → saidOfReading (Reading′.Message m whole) ≡ record { refusal = none; consumed = whole; message = some m }
+  pub refused : (number : ℕ) → saidOfReading (Reading′.Refused number) ≡ record { refusal = some number; consumed = 0; message = none }

@@ -6,6 +6,7 @@ use mathlib.Core.List.{List, _++_}
 use lib.ListN.{take}
 use Rattle.layout.specs.Number.{AreBytes}
 use Rattle.layout.specs.Fields.{lastAccount}
+use Rattle.layout.specs.Heading.{FiledFits}
 use Rattle.message.specs.declared.Message.{Message}
 use Rattle.message.specs.declared.Reading.the-variants as Reading′
 use Rattle.message.specs.Bytes.{headingOf, amountIn, bytesOfMessage, lengthOfMessage}
@@ -15,7 +16,7 @@ use Rattle.message.specs.Answers.{readOf}
 pub record Writable (m : Message) : Type 0 where
   pub transaction : headingOf m .transaction < 256 ^ 4
   pub account : headingOf m .account ≤ lastAccount
-  pub second : headingOf m .second < 256 ^ 4
+  pub filed : FiledFits (headingOf m .filed)
   pub amount : amountIn m < 256 ^ 4
 
 -- reading what was written gives the message and its length, whatever bytes follow

@@ -8,33 +8,24 @@ use mathlib.Core.List.{List, [], _∷_, _++_, map}
 use mathlib.Core.Option.{none, some}
 use lib.ListN.{length, getD}
 use Rattle.events.specs.declared.Event.the-variants.{Open, Withdraw, Deposit, Close}
-use Rattle.layout.specs.Plain.{twoAt, fourAt, twoOf, fourOf}
+use Rattle.layout.specs.Plain.{twoAt, fourAt, fourOf, filedIn, headingBytes}
 use Rattle.layout.specs.Answers as Writing′
 use Rattle.message.specs.declared.Heading.{Heading}
 use Rattle.message.specs.declared.Message.{Message}
 use Rattle.message.specs.declared.Message.the-variants.{Request, Commit, Abort}
 use Rattle.message.specs.Bytes.{headingOf, amountIn, bytesOfMessage, lengthOfMessage}
-use Rattle.message.specs.Answers.{Given, given, readOf, writeOf}
+use Rattle.message.specs.Answers.{SaidOfReading, saidOfReading, readOf, writeOf}
 use Rattle.message.specs.Inverse.{Writable}
 
 -- a message of each kind, in the order of the kinds 1 to 6
 abbrev pub ofEachKind : Heading → (amount : ℕ) → List Message
 ofEachKind h a = Request h (Open a) ∷ Request h (Withdraw a) ∷ Request h (Deposit a) ∷ Request h Close ∷ Commit h ∷ Abort h ∷ []
 
--- transaction, account and second, highest byte first
-abbrev pub headingBytes : Heading → List ℕ
-headingBytes h = fourOf (h .transaction) ++ (twoOf (h .account) ++ fourOf (h .second))
-
 -- whatever the numbers are: the bytes of each message, its length, its heading and its amount
 pub record Plain (h : Heading) (a : ℕ) : Type 0 where
-  pub bytes : map bytesOfMessage (ofEachKind h a)
-      ≡ (1 ∷ (headingBytes h ++ fourOf a)) ∷
-      (2 ∷ (headingBytes h ++ fourOf a)) ∷
-      (3 ∷ (headingBytes h ++ fourOf a)) ∷
-      (4 ∷ headingBytes h) ∷
-      (5 ∷ headingBytes h) ∷
-      (6 ∷ headingBytes h) ∷
-      []
+  pub bytes : let heading = headingBytes (h .transaction) (h .account) (h .filed) in
+      map bytesOfMessage (ofEachKind h a)
+      ≡ (1 ∷ (heading ++ fourOf a)) ∷ (2 ∷ (heading ++ fourOf a)) ∷ (3 ∷ (heading ++ fourOf a)) ∷ (4 ∷ heading) ∷ (5 ∷ heading) ∷ (6 ∷ heading) ∷ []
   pub lengths : map lengthOfMessage (ofEachKind h a) ≡ 15 ∷ 15 ∷ 15 ∷ 11 ∷ 11 ∷ 11 ∷ []
   pub headings : map headingOf (ofEachKind h a) ≡ h ∷ h ∷ h ∷ h ∷ h ∷ h ∷ []
   pub amounts : map amountIn (ofEachKind h a) ≡ a ∷ a ∷ a ∷ 0 ∷ 0 ∷ 0 ∷ []
@@ -52,12 +43,12 @@ lengthIn (Commit h) = 11
 lengthIn (Abort h) = 11
 
 -- the answer of a reader that took a message of that length
-abbrev pub taken : Message → (whole : ℕ) → Given
+abbrev pub taken : Message → (whole : ℕ) → SaidOfReading
 taken m whole = record { refusal = none; consumed = whole; message = some m }
 
 -- the heading in the bytes
 abbrev pub headingIn : (bytes : List ℕ) → Heading
-headingIn bytes = record { transaction = fourAt bytes 1; account = twoAt bytes 5; second = fourAt bytes 7 }
+headingIn bytes = record { transaction = fourAt bytes 1; account = twoAt bytes 5; filed = filedIn bytes }
 
 -- kind, heading and amount in the bytes are those of the message
 abbrev pub Stands : (bytes : List ℕ) → Message → Type 0
@@ -76,12 +67,12 @@ pub record Begins (bytes : List ℕ) (m : Message) (whole : ℕ) : Type 0 where
 
 -- a message is taken exactly if the bytes begin with it
 abbrev pub ReaderTakes : Type 0
-ReaderTakes = (bytes : List ℕ) (m : Message) (whole : ℕ) → (given (readOf bytes) ≡ taken m whole) ↔ Begins bytes m whole
+ReaderTakes = (bytes : List ℕ) (m : Message) (whole : ℕ) → (saidOfReading (readOf bytes) ≡ taken m whole) ↔ Begins bytes m whole
 
 -- what was written is there to be read: the answer is the message's length, and the buffer begins with the message
 pub record Leaves (m : Message) (buffer : List ℕ) : Type 0 where
-  pub answer : Writing′.given (writeOf m buffer .answer) ≡ record { refusal = none; length′ = lengthIn m }
-  pub back : given (readOf (writeOf m buffer .buffer)) ≡ taken m (lengthIn m)
+  pub answer : Writing′.saidOfWriting (writeOf m buffer .answer) ≡ record { refusal = none; length′ = lengthIn m }
+  pub back : saidOfReading (readOf (writeOf m buffer .buffer)) ≡ taken m (lengthIn m)
 
 abbrev pub WriterReadBack : Type 0
 WriterReadBack = (m : Message) (buffer : List ℕ) → Writable m → lengthIn m ≤ length buffer → Leaves m buffer

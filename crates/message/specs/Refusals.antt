@@ -6,14 +6,15 @@ use mathlib.Core.Bool.{cond, not, _&&_}
 use mathlib.Core.List.{List, [], _∷_}
 use lib.Dec.{eqb, leb, ltb}
 use lib.ListN.{length, getD}
-use Rattle.layout.specs.Fields.{rowOf, wholeOf}
+use Rattle.rule.specs.Tests.{Test, test, firstOf}
+use Rattle.layout.specs.Fields.{rowOfKind, wholeOf}
 use Rattle.layout.specs.Plain.{twoAt}
 use Rattle.layout.specs.Answers as Answers′
-use Rattle.layout.specs.Answers.{Test, test, firstOf, Stays}
+use Rattle.layout.specs.Answers.{Stays}
 use Rattle.message.specs.declared.Message.{Message}
 use Rattle.message.specs.declared.Reading.{Reading}
 use Rattle.message.specs.Bytes.{messages, headingOf}
-use Rattle.message.specs.Answers.{given, readOf, writeOf}
+use Rattle.message.specs.Answers.{saidOfReading, readOf, writeOf}
 use Rattle.message.specs.Plain.{lengthIn}
 
 -- kinds 1 to 3 have 15 bytes, 4 to 6 have 11, and there are no others
@@ -21,7 +22,7 @@ abbrev pub kindLength : (kind : ℕ) → ℕ
 kindLength kind = cond (leb kind 3) 15 11
 
 abbrev pub LengthsPlain : Type 0
-LengthsPlain = (kind : ℕ) → wholeOf (rowOf messages kind) ≡ cond (leb 1 kind && leb kind 6) (kindLength kind) 0
+LengthsPlain = (kind : ℕ) → wholeOf (rowOfKind messages kind) ≡ cond (leb 1 kind && leb kind 6) (kindLength kind) 0
 
 -- the reader: 1, 2, 1 and 3, in plain numbers; the kind is the first byte, the account the sixth and the seventh
 abbrev pub readerTests : (bytes : List ℕ) → List Test
@@ -38,14 +39,14 @@ writerTests m buffer = test (ltb 15 (headingOf m .account)) 3 ∷ test (ltb (len
 
 -- each number exactly if its test is the first that holds
 abbrev pub ReaderRefuses : Type 0
-ReaderRefuses = (bytes : List ℕ) → given (readOf bytes) .refusal ≡ firstOf (readerTests bytes)
+ReaderRefuses = (bytes : List ℕ) → saidOfReading (readOf bytes) .refusal ≡ firstOf (readerTests bytes)
 
 abbrev pub WriterRefuses : Type 0
-WriterRefuses = (m : Message) (buffer : List ℕ) → Answers′.given (writeOf m buffer .answer) .refusal ≡ firstOf (writerTests m buffer)
+WriterRefuses = (m : Message) (buffer : List ℕ) → Answers′.saidOfWriting (writeOf m buffer .answer) .refusal ≡ firstOf (writerTests m buffer)
 
 abbrev pub WriterStays : Type 0
 WriterStays = (m : Message) (buffer : List ℕ) → Stays buffer (writeOf m buffer)
 
 -- what is said of the reader's answer tells the answers apart
 abbrev pub ReadingsApart : Type 0
-ReadingsApart = (r s : Reading) → given r ≡ given s → r ≡ s
+ReadingsApart = (r s : Reading) → saidOfReading r ≡ saidOfReading s → r ≡ s

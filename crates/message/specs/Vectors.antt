@@ -13,7 +13,7 @@ use Rattle.message.specs.declared.Heading.{Heading}
 use Rattle.message.specs.declared.Message.{Message}
 use Rattle.message.specs.declared.Message.the-variants.{Request, Commit, Abort}
 use Rattle.message.specs.Bytes.{bytesOfMessage}
-use Rattle.message.specs.Answers.{Given, given, readOf, writeOf}
+use Rattle.message.specs.Answers.{SaidOfReading, saidOfReading, readOf, writeOf}
 
 -- a buffer to write into: 17 bytes, no two alike and none that a message of the table has
 abbrev pub buffer : List ℕ
@@ -31,7 +31,7 @@ abbrev pub vector : Message → (length′ : ℕ) (bytes behind : List ℕ) → 
 vector message length′ bytes behind = record { message = message; length′ = length′; bytes = bytes; behind = behind }
 
 abbrev pub heading : (transaction account second : ℕ) → Heading
-heading transaction account second = record { transaction = transaction; account = account; second = second }
+heading transaction account second = record { transaction = transaction; account = account; filed = record { second = second } }
 
 unfoldable pub table : List Vector
 table =
@@ -64,17 +64,17 @@ table =
 -- what a row comes to: the message's bytes, what the writer answers and leaves of the buffer, what the reader answers to what was left
 pub record Found : Type 0 where
   pub bytes : List ℕ
-  pub answer : Writing′.Given
+  pub answer : Writing′.SaidOfWriting
   pub left : List ℕ
-  pub reading : Given
+  pub reading : SaidOfReading
 
 abbrev pub found : Vector → Found
 found v =
     record {
       bytes = bytesOfMessage (v .message);
-      answer = Writing′.given (writeOf (v .message) buffer .answer);
+      answer = Writing′.saidOfWriting (writeOf (v .message) buffer .answer);
       left = writeOf (v .message) buffer .buffer;
-      reading = given (readOf (v .bytes ++ v .behind));
+      reading = saidOfReading (readOf (v .bytes ++ v .behind));
     }
 
 abbrev pub said : Vector → Found
@@ -126,9 +126,9 @@ unwrittens =
 
 pub record VectorsHold : Type 0 where
   pub messages : map found table ≡ map said table
-  pub readings : map (λ (u : Unread). given (readOf (u .bytes))) unreads
+  pub readings : map (λ (u : Unread). saidOfReading (readOf (u .bytes))) unreads
       ≡ map (λ (u : Unread). record { refusal = some (u .number); consumed = 0; message = none }) unreads
-  pub answers : map (λ (u : Unwritten). Writing′.given (writeOf (u .message) (replicate (u .room) 9) .answer)) unwrittens
+  pub answers : map (λ (u : Unwritten). Writing′.saidOfWriting (writeOf (u .message) (replicate (u .room) 9) .answer)) unwrittens
       ≡ map (λ (u : Unwritten). record { refusal = some (u .number); length′ = 0 }) unwrittens
   pub buffers : map (λ (u : Unwritten). writeOf (u .message) (replicate (u .room) 9) .buffer) unwrittens
       ≡ map (λ (u : Unwritten). replicate (u .room) 9) unwrittens

@@ -1,10 +1,11 @@
 // A message, its reader and its writer.
 ghost use mathlib.Core.Path.{_≡_};
-ghost use Rattle.layout.specs.Fields.{rowOf, wholeOf};
+ghost use Rattle.layout.specs.Fields.{rowOfKind, wholeOf};
 ghost use Rattle.layout.specs.Shapes.{padded, shapeOf};
 ghost use Rattle.message.specs.Bytes.{messages, kindOf, headingOf, amountIn, numbersOf, messageBy};
 ghost use Rattle.message.specs.Answers.{readOf, writeOf};
 use events::Event;
+use filing::Filed;
 use layout::Shape;
 use layout::Writing;
 
@@ -12,7 +13,7 @@ use layout::Writing;
 pub struct Heading {
     pub transaction: u32,
     pub account: u16,
-    pub second: u32,
+    pub filed: Filed,
 }
 
 pub enum Message {
@@ -50,7 +51,7 @@ pub fn read_message(bytes: &[u8]) -> Reading
     let heading = Heading {
         transaction: numbers[1],
         account: numbers[2] as u16,
-        second: numbers[3],
+        filed: layout::filed_from(numbers),
     };
     Reading::Message(message_of(kind, heading, numbers[4]), shape.whole)
 }
@@ -74,15 +75,15 @@ pub fn write_message(message: Message, buffer: &mut [u8]) -> Writing
 
 // The whole length of a message of a kind, and 0 for a kind that is none of 1 to 6.
 pub fn whole_length(kind: u8) -> usize
-    ensures { λ r. ⌜ r ≡ wholeOf (rowOf messages kind) ⌝ }
+    ensures { λ r. ⌜ r ≡ wholeOf (rowOfKind messages kind) ⌝ }
 {
     let shape = shape_of(kind);
     shape.whole
 }
 
-// The table of kinds: kind, transaction, account, second, and the amount where there is one.
+// The table of kinds: the heading, and the amount where there is one.
 fn shape_of(kind: u8) -> Shape
-    ensures { λ r. ⌜ r ≡ shapeOf (rowOf messages kind) ⌝ }
+    ensures { λ r. ⌜ r ≡ shapeOf (rowOfKind messages kind) ⌝ }
 {
     match kind {
         1 => WITH_AMOUNT,
@@ -127,7 +128,7 @@ fn kind_of(message: Message) -> u8
     }
 }
 
-// The transaction, account and second of a message.
+// The heading of a message.
 fn heading_of(message: Message) -> Heading
     ensures { λ r. ⌜ r ≡ headingOf message ⌝ }
 {
@@ -154,16 +155,13 @@ fn numbers_of(message: Message) -> [u32; layout::FIELDS]
     ensures { λ r. ⌜ r ≡ padded (numbersOf message) ⌝ }
 {
     let heading = heading_of(message);
-    [
-        kind_of(message) as u32,
+    let filed = heading.filed;
+    let mut numbers = layout::heading_numbers(
+        kind_of(message),
         heading.transaction,
-        heading.account as u32,
-        heading.second,
-        amount_of(message),
-        0,
-        0,
-        0,
-        0,
-        0,
-    ]
+        heading.account,
+        filed,
+    );
+    numbers[4] = amount_of(message);
+    numbers
 }

@@ -1,4 +1,4 @@
--- From a fresh register every account stays in order: a step leaves an account in order, and a call changes no other. So the test of refusal 5 never holds.
+-- From a fresh register every account stays in order: what a call comes to leaves the account that it names in order, and changes no other. So the test of refusal 5 never holds.
 -- Assumes nothing.
 use Prim.Native.Nat.{ℕ, zero, suc}
 use mathlib.Core.Path.{_≡_, refl, sym, _∙_, ap}
@@ -6,93 +6,36 @@ use mathlib.Core.Bool.{Bool, true, false, cond, _&&_, not, true≢false}
 use mathlib.Core.List.{List, [], _∷_}
 use mathlib.Core.Option.{Option, none, some}
 use native.Mathlib.Omega.{arith}
-use lib.Dec.{eqb, ltb}
-use lib.ListN.{length, getD, set, replicate}
-use borrow.Author.Tests.{eq-eqb}
+use lib.Dec.{eqb}
+use lib.ListN.{getD, set, replicate}
+use borrow.Author.Tests.{eq-eqb, le-leb}
 use Rattle.rule.specs.Lists.{every}
 use Rattle.rule.specs.Rule as rule
+use Rattle.rule.specs.Tests.{Test, firstOf}
+use Rattle.rule.specs.Call as rule-call
 use Rattle.rule.specs.InOrder as rule-order
 use Rattle.rule.proofs.Lists.{and-left, and-right}
+use Rattle.rule.proofs.InOrder.{rest-order, clauses-order, call-order}
+use Rattle.rule.proofs.Reached.{new-rest}
+use Rattle.events.specs.declared.Event.{Event}
 use Rattle.events.specs.declared.State.{State}
+use Rattle.filing.specs.declared.Filed.{Filed}
 use Rattle.account.specs.declared.Account.{Account}
-use Rattle.account.specs.declared.Answer.{Answer as StepAnswer}
-use Rattle.account.specs.declared.Answer.the-variants as Step′
-use Rattle.account.specs.declared.Entries.{Entries}
-use Rattle.account.specs.Panel.{panel}
 use Rattle.account.specs.Places.{listsOf, accountOf}
-use Rattle.account.specs.InOrder.{inOrderOf}
-use Rattle.account.specs.Steps.{Told′, toldOf}
-use Rattle.account.proofs.Kept.{step-order}
-use Rattle.layout.specs.Answers.{Test, firstOf}
+use Rattle.account.specs.InOrder.{inOrderBy}
+use Rattle.account.specs.Steps.{Shown, shownBy}
+use Rattle.account.proofs.Kept.{order-account, order-lists}
 use Rattle.message.specs.declared.Message.{Message}
-use Rattle.message.specs.declared.Reading.{Reading}
-use Rattle.message.specs.declared.Reading.the-variants as Reading′
 use Rattle.message.specs.Bytes.{headingOf}
-use Rattle.message.specs.Answers.{readOf}
-use Rattle.entry.specs.Answers.{longestCall}
 use Rattle.register.specs.declared.Register.{Register}
-use Rattle.register.specs.Register.{freshRegister, nowhere, accountAt, ruleMessage, stepBy, outlookIn}
-use Rattle.register.specs.Call.{refusalOf, refusedWith, afterStep, afterMessage, afterReading, callOf}
-use Rattle.register.specs.Refusals.{accountIn, standingAt, callTests, outlookTests, answeredAs}
+use Rattle.register.specs.Register.{nowhere, accountAt, ruleMessage, freshBy, askedBy}
+use Rattle.register.specs.Call.{Result, refusalOf, calledBy}
+use Rattle.register.specs.Refusals.{accountIn, callTests, outlookTests, answeredAs}
 use Rattle.register.specs.Sequence.{Input, after}
+use Rattle.register.proofs.Suits.{Suits}
 use Rattle.register.proofs.Refusals.{call-refuses, outlook-tells}
-
--- every account is in order, and so is what stands past the last
-abbrev InOrder : Register → Type 0
-InOrder r = (i : ℕ) → inOrderOf (standingAt r i) ≡ true
-
-set-order : (accounts : List Account) (i : ℕ) (a : Account) → inOrderOf a ≡ true → ((j : ℕ) → inOrderOf (getD accounts j nowhere) ≡ true) → (j : ℕ) → inOrderOf (getD (set accounts i a) j nowhere) ≡ true
-set-order [] i a h k j = k j
-set-order (x ∷ accounts) zero a h k zero = h
-set-order (x ∷ accounts) zero a h k (suc j) = k (suc j)
-set-order (x ∷ accounts) (suc i) a h k zero = k zero
-set-order (x ∷ accounts) (suc i) a h k (suc j) = set-order accounts i a h (λ n. k (suc n)) j
-
-module _ (r : Register) (buffer : List ℕ) (k : InOrder r) where
-  step-kept : (i consumed : ℕ) (answer : StepAnswer) (next : Account) (entries : Entries) → inOrderOf next ≡ true → InOrder (afterStep r buffer i consumed answer next entries .register)
-  step-kept i consumed (Step′.Refused n) next entries h = k
-  step-kept i consumed Step′.Taken next entries h = set-order (r .accounts) i next h k
-
-  message-kept : (m : Message) (consumed : ℕ) → InOrder (afterMessage r buffer m consumed .register)
-  unfolding afterMessage
-  message-kept m consumed = go (ltb (length buffer) longestCall)
-    where
-      i : ℕ
-      i = headingOf m .account
-
-      a : Account
-      a = accountAt r i
-
-      go : (b : Bool) → InOrder (cond b (refusedWith r buffer 4) (afterStep r buffer i consumed (stepBy a m .answer) (stepBy a m .account) (stepBy a m .entries)) .register)
-      go true = k
-      go false = step-kept i consumed (stepBy a m .answer) (stepBy a m .account) (stepBy a m .entries) (step-order a (ruleMessage m) (k i))
-
-  reading-kept : (x : Reading) → InOrder (afterReading r buffer x .register)
-  reading-kept (Reading′.Refused n) = k
-  reading-kept (Reading′.Message m consumed) = message-kept m consumed
-
-calls-kept : (inputs : List Input) (r : Register) → InOrder r → InOrder (after r inputs)
-unfolding callOf
-calls-kept [] r k = k
-calls-kept (x ∷ inputs) r k = calls-kept inputs (callOf r (x .message) (x .buffer) .register) (reading-kept r (x .buffer) k (readOf (x .message)))
-
--- a new account, and what stands past the last, computed
-nowhere-order : inOrderOf nowhere ≡ true
-unfolding inOrderOf listsOf rule-order.isInOrder
-nowhere-order = refl
-
-fresh-order : inOrderOf (accountOf (rule.newAccount panel ℕ)) ≡ true
-unfolding inOrderOf listsOf accountOf rule-order.isInOrder
-fresh-order = refl
-
-replicate-order : (n : ℕ) (a : Account) → inOrderOf a ≡ true → (i : ℕ) → inOrderOf (getD (replicate n a) i nowhere) ≡ true
-replicate-order zero a h i = nowhere-order
-replicate-order (suc n) a h zero = h
-replicate-order (suc n) a h (suc i) = replicate-order n a h i
-
-pub always-in-order : (inputs : List Input) (i : ℕ) → inOrderOf (standingAt (after freshRegister inputs) i) ≡ true
-unfolding freshRegister
-always-in-order inputs i = calls-kept inputs freshRegister (replicate-order 16 (accountOf (rule.newAccount panel ℕ)) fresh-order) i
+use Rattle.register.proofs.Sending.{lists, taking, Free}
+use Rattle.register.proofs.Calling.{Calling, refused, taken, calling}
 
 -- a number is not given where no test of that number holds
 never : (n : ℕ) (tests : List Test) → every (λ (t : Test). not (eqb (t .number) n && t .holds)) tests ≡ true → firstOf tests ≡ some n → ⊥
@@ -106,16 +49,63 @@ never n (t ∷ tests) h e = go (t .holds) refl e (λ k. never n tests (and-right
         true≢false (sym (rw (eq-eqb (t .number) n z, p) at not-this))
     go false p e k = k e
 
-pub never-five : (inputs : List Input) (bytes buffer : List ℕ) → refusalOf (callOf (after freshRegister inputs) bytes buffer .answer) ≡ some 5 → ⊥
-never-five inputs bytes buffer h =
-    let r = after freshRegister inputs in
-    never 5 (callTests r bytes buffer) (rw (always-in-order inputs (accountIn bytes))) (sym (call-refuses r bytes buffer) ∙ h)
-
 answered-refusal : (o : Option ℕ) (s : State) (n : ℕ) → answeredAs o s n .refusal ≡ o
 answered-refusal none s n = refl
 answered-refusal (some k) s n = refl
 
-pub never-asked-five : (inputs : List Input) (i n : ℕ) → toldOf (outlookIn (after freshRegister inputs) i n) .refusal ≡ some 5 → ⊥
-never-asked-five inputs i n h =
-    let r = after freshRegister inputs in
-    never 5 (outlookTests r i n) (rw (always-in-order inputs i)) (sym (answered-refusal (firstOf (outlookTests r i n)) _ _) ∙ sym (ap (λ (t : Told′). t .refusal) (outlook-tells r i n)) ∙ h)
+module _ (R : rule.Rule State Event ℕ) (k : Suits R) where
+  -- the account that follows a message that is taken is in order
+  pub taken-order : (r : Register) (m : Message) → Free R r m → rule-order.isInOrder R (taking R r m .account) ≡ true
+  unfolding rule-call.call
+  taken-order r m free = rw (free .unrefused) at (call-order R (k .ordered) (lists R r m) (ruleMessage m) (order-lists R (accountAt r (headingOf m .account)) (free .inOrder)))
+
+  -- every account is in order, and so is what stands past the last
+  abbrev InOrder : Register → Type 0
+  InOrder r = (i : ℕ) → inOrderBy R (accountAt r i) ≡ true
+
+  set-order : (accounts : List Account) (i : ℕ) (a : Account) → inOrderBy R a ≡ true → ((j : ℕ) → inOrderBy R (getD accounts j nowhere) ≡ true)
+      → (j : ℕ) → inOrderBy R (getD (set accounts i a) j nowhere) ≡ true
+  set-order [] i a h all j = all j
+  set-order (x ∷ accounts) zero a h all zero = h
+  set-order (x ∷ accounts) zero a h all (suc j) = all (suc j)
+  set-order (x ∷ accounts) (suc i) a h all zero = all zero
+  set-order (x ∷ accounts) (suc i) a h all (suc j) = set-order accounts i a h (λ n. all (suc n)) j
+
+  call-kept : {bytes buffer : List ℕ} {x : Result} (r : Register) → Calling R r bytes buffer x → InOrder r → InOrder (x .register)
+  call-kept r (refused n why) all = all
+  call-kept r (taken m consumed t) all =
+      set-order (r .accounts) (headingOf m .account) (accountOf (taking R r m .account)) (order-account R (taking R r m .account) (taken-order r m (t .free))) all
+
+  calls-kept : (inputs : List Input) (r : Register) → InOrder r → InOrder (after R r inputs)
+  calls-kept [] r all = all
+  calls-kept (x ∷ inputs) r all =
+      calls-kept inputs (calledBy R r (x .message) (x .buffer) .register) (call-kept r (calling R r (x .message) (x .buffer)) all)
+
+  -- a new account, and what stands past the last
+  pub new-order : rule-order.isInOrder R (rule.newAccount R Filed) ≡ true
+  new-order = clauses-order R (rule.newAccount R Filed) (rest-order R (k .ordered) (rule.newAccount R Filed) [] (new-rest R))
+
+  nowhere-order : inOrderBy R nowhere ≡ true
+  unfolding inOrderBy listsOf
+  nowhere-order = rw (le-leb 0 (R .progressLimit) (omega arith), le-leb 0 (R .heldLimit) (omega arith), ← k .new) new-order
+
+  replicate-order : (n : ℕ) (a : Account) → inOrderBy R a ≡ true → (i : ℕ) → inOrderBy R (getD (replicate n a) i nowhere) ≡ true
+  replicate-order zero a h i = nowhere-order
+  replicate-order (suc n) a h zero = h
+  replicate-order (suc n) a h (suc i) = replicate-order n a h i
+
+  pub always-in-order : (inputs : List Input) (i : ℕ) → inOrderBy R (accountAt (after R (freshBy R) inputs) i) ≡ true
+  unfolding freshBy
+  always-in-order inputs i =
+      calls-kept inputs (freshBy R) (replicate-order 16 (accountOf (rule.newAccount R Filed)) (order-account R (rule.newAccount R Filed) new-order)) i
+
+  pub never-five : (inputs : List Input) (bytes buffer : List ℕ) → refusalOf (calledBy R (after R (freshBy R) inputs) bytes buffer .reply) ≡ some 5 → ⊥
+  never-five inputs bytes buffer h =
+      let r = after R (freshBy R) inputs in
+      never 5 (callTests R r bytes buffer) (rw (always-in-order inputs (accountIn bytes))) (sym (call-refuses R r bytes buffer) ∙ h)
+
+  pub never-asked-five : (inputs : List Input) (i n : ℕ) → shownBy (askedBy R (after R (freshBy R) inputs) i n) .refusal ≡ some 5 → ⊥
+  never-asked-five inputs i n h =
+      let r = after R (freshBy R) inputs in
+      never 5 (outlookTests R r i n) (rw (always-in-order inputs i))
+      (sym (answered-refusal (firstOf (outlookTests R r i n)) _ _) ∙ sym (ap (λ (t : Shown). t .refusal) (outlook-tells R r i n)) ∙ h)

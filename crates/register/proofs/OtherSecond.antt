@@ -12,15 +12,20 @@ use borrow.Author.Tests.{ltb-true, ltb-false, eqb-true, eqb-false}
 use lib.Dec.{eqb, ltb}
 use lib.ListN.{length, getD, take, drop, length-append, length-take}
 use lib.Seq.{slice, take-nil, getD-take, getD-drop, take-at, drop-at}
-use Rattle.rule.specs.Rule as rule
 use Rattle.rule.specs.Filed.{messageThrough, entryThrough}
-use Rattle.account.specs.declared.Told.{Told}
-use Rattle.account.specs.declared.Entry.{Entry}
-use Rattle.account.specs.Steps.{RuleEntry, entryOf}
+use Rattle.filing.specs.declared.Filed.{Filed}
+use Rattle.filing.specs.declared.Told.{Told}
+use Rattle.filing.specs.declared.Told.the-variants.{Voted, Noted, Applied, Dropped}
+use Rattle.filing.specs.declared.Entry.{Entry}
+use Rattle.filing.specs.Slots.{blankFiled}
+use Rattle.filing.specs.Entries.{RuleEntry, entryOf}
+use Rattle.filing.proofs.Slots.{weighing-back}
 use Rattle.layout.specs.Number.{numberAt}
-use Rattle.layout.specs.Fields.{Row, rowOf, thenOf, widthsOf, heading, numbersAt, written, total, lastAccount}
+use Rattle.layout.specs.Fields.{KindRow, rowOfKind, thenOf, widthsOf, heading, numbersAt, written, total, lastAccount}
 use Rattle.events.specs.Kinds.{eventOf}
+use Rattle.layout.specs.Heading.{headingNumbers}
 use Rattle.layout.proofs.Fields.{length-written, written-append}
+use Rattle.layout.proofs.Heading.{filedAt}
 use Rattle.message.specs.declared.Heading.{Heading}
 use Rattle.message.specs.declared.Message.{Message}
 use Rattle.message.specs.declared.Message.the-variants.{Request, Commit, Abort}
@@ -31,19 +36,20 @@ use Rattle.message.specs.Answers.{readNumbers, readKind, readOf}
 use Rattle.entry.specs.Bytes.{entryRows, kindOf, thenNumbers, bytesOfEntry, bytesOfEntries}
 use Rattle.entry.proofs.Stored.{length-entry}
 use Rattle.register.specs.Register.{ruleMessage}
+use Rattle.register.specs.Sequence.{toldAs, ruleEntry}
 use Rattle.register.specs.Whole.{Whole}
 use Rattle.register.specs.Seconds.{OtherSecond, SameMessage, WholeStrings, SameEntries, no-entry, entry}
 use Rattle.register.proofs.Whole.{row-length, row-total}
 
--- what is left of a second that is not looked at
-abbrev pub forget : ℕ → ℕ
-forget second = 0
+-- what is left of what is filed where it is not looked at
+abbrev pub forget : Filed → Filed
+forget g = blankFiled
 
--- two readings that differ at most in a second: the same refusal, or messages of the same length to the same account
+-- two readings that differ at most in what is filed: the same refusal, or messages of the same length to the same account
 pub data SameReading : Reading → Reading → Type 0 where
   same-refusal : (number : ℕ) → SameReading (Reading′.Refused number) (Reading′.Refused number)
-  same-message : (m m′ : Message) (account whole : ℕ) → headingOf m .account ≡ account → headingOf m′ .account ≡ account → account ≤ lastAccount
-      → messageThrough forget (ruleMessage m) ≡ messageThrough forget (ruleMessage m′) → SameReading (Reading′.Message m whole) (Reading′.Message m′ whole)
+  same-message : (m m′ : Message) (whole : ℕ) → headingOf m .account ≡ headingOf m′ .account → messageThrough forget (ruleMessage m) ≡ messageThrough forget (ruleMessage m′)
+      → SameReading (Reading′.Message m whole) (Reading′.Message m′ whole)
 
 -- Numbers that stand before the second, or behind it within the message's length.
 module _ (bytes bytes′ : List ℕ) (other : SameMessage bytes bytes′) where
@@ -96,45 +102,42 @@ module _ (bytes bytes′ : List ℕ) (other : SameMessage bytes bytes′) where
       go false true p q = absurd (omega (arith, ltb-true (length bytes′) whole q, other .reached whole w .0 (ltb-false (length bytes) whole p)))
       go false false p q = refl
 
--- Messages whose numbers agree but for the second, by the tests of their kind.
-module _ (kind transaction account second second′ amount : ℕ) where
-  abbrev headed : ℕ → Heading
-  headed s = record { transaction = transaction; account = account; second = s }
+-- Messages that agree but for what is filed, by the tests of their kind.
+module _ (kind transaction account amount : ℕ) (g g′ : Filed) where
+  abbrev headed : Filed → Heading
+  headed x = record { transaction = transaction; account = account; filed = x }
 
-  abbrev chosen : (commits aborts : Bool) → ℕ → Message
-  chosen commits aborts s = cond commits (Commit (headed s)) (cond aborts (Abort (headed s)) (Request (headed s) (eventOf kind amount)))
+  abbrev chosen : (commits aborts : Bool) → Filed → Message
+  chosen commits aborts x = cond commits (Commit (headed x)) (cond aborts (Abort (headed x)) (Request (headed x) (eventOf kind amount)))
 
-  chosen-same : (commits aborts : Bool) (whole : ℕ) → account ≤ lastAccount
-      → SameReading (Reading′.Message (chosen commits aborts second) whole) (Reading′.Message (chosen commits aborts second′) whole)
-  chosen-same true aborts whole l = same-message (Commit (headed second)) (Commit (headed second′)) account whole refl refl l refl
-  chosen-same false true whole l = same-message (Abort (headed second)) (Abort (headed second′)) account whole refl refl l refl
-  chosen-same false false whole l =
-      same-message (Request (headed second) (eventOf kind amount)) (Request (headed second′) (eventOf kind amount)) account whole refl refl l refl
+  chosen-same : (commits aborts : Bool) (whole : ℕ)
+      → SameReading (Reading′.Message (chosen commits aborts g) whole) (Reading′.Message (chosen commits aborts g′) whole)
+  chosen-same true aborts whole = same-message (Commit (headed g)) (Commit (headed g′)) whole refl refl
+  chosen-same false true whole = same-message (Abort (headed g)) (Abort (headed g′)) whole refl refl
+  chosen-same false false whole = same-message (Request (headed g) (eventOf kind amount)) (Request (headed g′) (eventOf kind amount)) whole refl refl
 
-  message-same : (whole : ℕ) → account ≤ lastAccount
-      → SameReading (Reading′.Message (messageBy kind (headed second) amount) whole) (Reading′.Message (messageBy kind (headed second′) amount) whole)
+  message-same : (whole : ℕ)
+      → SameReading (Reading′.Message (messageBy kind (headed g) amount) whole) (Reading′.Message (messageBy kind (headed g′) amount) whole)
   unfolding messageBy
-  message-same whole l = chosen-same (eqb kind 5) (eqb kind 6) whole l
+  message-same whole = chosen-same (eqb kind 5) (eqb kind 6) whole
 
--- numbers that agree but for the second are read alike
-numbers-same : (kind transaction account second second′ whole : ℕ) (amounts : List ℕ)
-    → SameReading (readNumbers whole (kind ∷ transaction ∷ account ∷ second ∷ amounts)) (readNumbers whole (kind ∷ transaction ∷ account ∷ second′ ∷ amounts))
-numbers-same kind transaction account second second′ whole amounts = go (ltb lastAccount account) refl
+-- numbers that agree but for what is filed are read alike
+numbers-same : (kind transaction account whole : ℕ) (g g′ : Filed) (amounts : List ℕ)
+    → SameReading (readNumbers whole (headingNumbers kind transaction account g ++ amounts)) (readNumbers whole (headingNumbers kind transaction account g′ ++ amounts))
+numbers-same kind transaction account whole g g′ amounts = go (ltb lastAccount account)
   where
-    amount : ℕ
-    amount = getD amounts 0 0
+    reading : Bool → Filed → Reading
+    reading above x =
+        cond above (Reading′.Refused 3)
+        (Reading′.Message (messageBy kind (record { transaction = transaction; account = account; filed = x }) (getD amounts 0 0)) whole)
 
-    reading : Bool → ℕ → Reading
-    reading above s =
-        cond above (Reading′.Refused 3) (Reading′.Message (messageBy kind (record { transaction = transaction; account = account; second = s }) amount) whole)
-
-    go : (above : Bool) → ltb lastAccount account ≡ above → SameReading (reading above second) (reading above second′)
-    go true q = same-refusal 3
-    go false q = message-same kind transaction account second second′ amount whole (ltb-false lastAccount account q)
+    go : (above : Bool) → SameReading (reading above g) (reading above g′)
+    go true = same-refusal 3
+    go false = message-same kind transaction account (getD amounts 0 0) g g′ whole
 
 -- and so are bytes
 module _ (bytes bytes′ : List ℕ) (other : SameMessage bytes bytes′) where
-  kind-same : (found : Option Row) → rowOf messages (numberAt bytes 0 1) ≡ found → SameReading (readKind found bytes) (readKind found bytes′)
+  kind-same : (found : Option KindRow) → rowOfKind messages (numberAt bytes 0 1) ≡ found → SameReading (readKind found bytes) (readKind found bytes′)
   unfolding numbersAt
   kind-same none e = same-refusal 2
   kind-same (some r) e = rw (short-same bytes bytes′ other (r .whole) (row-length bytes r e)) (go (ltb (length bytes′) (r .whole)))
@@ -151,14 +154,14 @@ module _ (bytes bytes′ : List ℕ) (other : SameMessage bytes bytes′) where
             number-before bytes bytes′ other 5 2 (omega arith),
             numbers-behind bytes bytes′ other (r .whole) (row-length bytes r e) (r .then) 11 (omega arith) (omega (arith, row-total bytes r e)),
           )
-          (numbers-same (numberAt bytes′ 0 1) (numberAt bytes′ 1 4) (numberAt bytes′ 5 2) (numberAt bytes 7 4) (numberAt bytes′ 7 4) (r .whole) (numbersAt (r .then) bytes′ 11))
+          (numbers-same (numberAt bytes′ 0 1) (numberAt bytes′ 1 4) (numberAt bytes′ 5 2) (r .whole) (filedAt bytes) (filedAt bytes′) (numbersAt (r .then) bytes′ 11))
 
   pub reading-same : SameReading (readOf bytes) (readOf bytes′)
   unfolding readOf
   reading-same = rw (empty-same bytes bytes′ other, ← number-before bytes bytes′ other 0 1 (omega arith)) (go (eqb (length bytes′) 0))
     where
-      row′ : Option Row
-      row′ = rowOf messages (numberAt bytes 0 1)
+      row′ : Option KindRow
+      row′ = rowOfKind messages (numberAt bytes 0 1)
 
       go : (empty : Bool) → SameReading (cond empty (Reading′.Refused 1) (readKind row′ bytes)) (cond empty (Reading′.Refused 1) (readKind row′ bytes′))
       go true = same-refusal 1
@@ -180,70 +183,81 @@ whole-strings bytes bytes′ other =
       reached = λ whole w. (λ h. omega (arith, other .size), λ h. omega (arith, other .size));
     }
 
--- An entry's bytes: seven before its second, and those behind it.
-module _ (kind transaction account second : ℕ) (then numbers : List ℕ) where
-  entry-front : take 7 (written (heading ++ then) (kind ∷ transaction ∷ account ∷ second ∷ numbers)) ≡ written (1 ∷ 4 ∷ 2 ∷ []) (kind ∷ transaction ∷ account ∷ [])
+-- An entry's bytes: seven before what is filed, and those behind it.
+module _ (kind transaction account : ℕ) (g : Filed) (then numbers : List ℕ) where
+  abbrev before-filed : List ℕ
+  before-filed = kind ∷ transaction ∷ account ∷ []
+
+  abbrev headed-by : List ℕ
+  headed-by = headingNumbers kind transaction account g
+
+  entry-front : take 7 (written (heading ++ then) (headed-by ++ numbers)) ≡ written (1 ∷ 4 ∷ 2 ∷ []) before-filed
   entry-front =
-      ap (take 7) (written-append (1 ∷ 4 ∷ 2 ∷ []) (4 ∷ then) (kind ∷ transaction ∷ account ∷ []) (second ∷ numbers) refl)
-      ∙ take-at (written (1 ∷ 4 ∷ 2 ∷ []) (kind ∷ transaction ∷ account ∷ [])) (written (4 ∷ then) (second ∷ numbers)) 7
-      (length-written (1 ∷ 4 ∷ 2 ∷ []) (kind ∷ transaction ∷ account ∷ []) refl)
+      ap (take 7) (written-append (1 ∷ 4 ∷ 2 ∷ []) (4 ∷ then) before-filed (drop 3 headed-by ++ numbers) refl)
+      ∙ take-at (written (1 ∷ 4 ∷ 2 ∷ []) before-filed) (written (4 ∷ then) (drop 3 headed-by ++ numbers)) 7 (length-written (1 ∷ 4 ∷ 2 ∷ []) before-filed refl)
 
-  entry-back : drop 11 (written (heading ++ then) (kind ∷ transaction ∷ account ∷ second ∷ numbers)) ≡ written then numbers
+  entry-back : drop 11 (written (heading ++ then) (headed-by ++ numbers)) ≡ written then numbers
   entry-back =
-      ap (drop 11) (written-append heading then (kind ∷ transaction ∷ account ∷ second ∷ []) numbers refl)
-      ∙ drop-at (written heading (kind ∷ transaction ∷ account ∷ second ∷ [])) (written then numbers) 11
-      (length-written heading (kind ∷ transaction ∷ account ∷ second ∷ []) refl)
+      ap (drop 11) (written-append heading then headed-by numbers refl)
+      ∙ drop-at (written heading headed-by) (written then numbers) 11 (length-written heading headed-by refl)
 
--- entries that agree but for their seconds
+-- entries that agree but for what is filed
 module _ (account transaction : ℕ) (told : Told) where
-  abbrev said : ℕ → Entry
-  said second = record { transaction = transaction; second = second; told = told }
+  abbrev said : Filed → Entry
+  said g = record { transaction = transaction; filed = g; told = told }
 
-  entry-same : (second second′ : ℕ) → OtherSecond (bytesOfEntry account (said second)) (bytesOfEntry account (said second′))
+  entry-same : (g g′ : Filed) → OtherSecond (bytesOfEntry account (said g)) (bytesOfEntry account (said g′))
   unfolding bytesOfEntry
-  entry-same second second′ =
+  entry-same g g′ =
       let kind = kindOf told in
-      let then = thenOf (rowOf entryRows kind) in
+      let then = thenOf (rowOfKind entryRows kind) in
       let numbers = thenNumbers told in
       record {
-        size = length-entry account (said second) ∙ sym (length-entry account (said second′));
-        front = entry-front kind transaction account second then numbers ∙ sym (entry-front kind transaction account second′ then numbers);
-        back = entry-back kind transaction account second then numbers ∙ sym (entry-back kind transaction account second′ then numbers);
+        size = length-entry account (said g) ∙ sym (length-entry account (said g′));
+        front = entry-front kind transaction account g then numbers ∙ sym (entry-front kind transaction account g′ then numbers);
+        back = entry-back kind transaction account g then numbers ∙ sym (entry-back kind transaction account g′ then numbers);
       }
 
--- what an entry says besides its second stays where the second is forgotten
-told-kept : (x : RuleEntry) → entryOf (entryThrough forget x) .told ≡ entryOf x .told
-told-kept (rule.voted v t g e n) = refl
-told-kept (rule.noted t g) = refl
-told-kept (rule.applied t g e b) = refl
-told-kept (rule.dropped t g e) = refl
+-- what an entry says besides what is filed stays where that is forgotten
+abbrev forgotten : Entry → RuleEntry
+forgotten e = entryThrough forget (ruleEntry e)
 
-transaction-kept : (x : RuleEntry) → entryOf (entryThrough forget x) .transaction ≡ entryOf x .transaction
-transaction-kept (rule.voted v t g e n) = refl
-transaction-kept (rule.noted t g) = refl
-transaction-kept (rule.applied t g e b) = refl
-transaction-kept (rule.dropped t g e) = refl
+forgotten-told : (e : Entry) → entryOf (forgotten e) .told ≡ e .told
+forgotten-told e = by (e .told)
+  where
+    by : (told : Told) → entryOf (entryThrough forget (toldAs (e .transaction) (e .filed) told)) .told ≡ told
+    by (Voted x w) = ap (Voted x) (weighing-back w)
+    by Noted = refl
+    by (Applied x b) = refl
+    by (Dropped x) = refl
+
+forgotten-transaction : (e : Entry) → entryOf (forgotten e) .transaction ≡ e .transaction
+forgotten-transaction e = by (e .told)
+  where
+    by : (told : Told) → entryOf (entryThrough forget (toldAs (e .transaction) (e .filed) told)) .transaction ≡ e .transaction
+    by (Voted x w) = refl
+    by Noted = refl
+    by (Applied x b) = refl
+    by (Dropped x) = refl
 
 module _ (account : ℕ) where
-  rule-entry-same : (x x′ : RuleEntry) → entryThrough forget x ≡ entryThrough forget x′ → OtherSecond (bytesOfEntry account (entryOf x)) (bytesOfEntry account (entryOf x′))
-  rule-entry-same x x′ h =
-      let t : entryOf x .transaction ≡ entryOf x′ .transaction =
-      sym (transaction-kept x) ∙ ap (λ (y : RuleEntry). entryOf y .transaction) h ∙ transaction-kept x′ in
-      let d : entryOf x .told ≡ entryOf x′ .told = sym (told-kept x) ∙ ap (λ (y : RuleEntry). entryOf y .told) h ∙ told-kept x′ in
-      subst₂ (λ (u : ℕ) (w : Told). OtherSecond (bytesOfEntry account (entryOf x)) (bytesOfEntry account (said account u w (entryOf x′ .second)))) t d
-      (entry-same account (entryOf x .transaction) (entryOf x .told) (entryOf x .second) (entryOf x′ .second))
+  two-same : (e e′ : Entry) → forgotten e ≡ forgotten e′ → OtherSecond (bytesOfEntry account e) (bytesOfEntry account e′)
+  two-same e e′ h =
+      let t : e .transaction ≡ e′ .transaction = sym (forgotten-transaction e) ∙ ap (λ (y : RuleEntry). entryOf y .transaction) h ∙ forgotten-transaction e′ in
+      let d : e .told ≡ e′ .told = sym (forgotten-told e) ∙ ap (λ (y : RuleEntry). entryOf y .told) h ∙ forgotten-told e′ in
+      subst₂ (λ (u : ℕ) (w : Told). OtherSecond (bytesOfEntry account e) (bytesOfEntry account (said account u w (e′ .filed)))) t d
+      (entry-same account (e .transaction) (e .told) (e .filed) (e′ .filed))
 
-  -- the entries of two calls that agree but for their seconds
-  pub entries-same : (xs xs′ : List RuleEntry) → map (entryThrough forget) xs ≡ map (entryThrough forget) xs′
-      → SameEntries (bytesOfEntries account (map entryOf xs)) (bytesOfEntries account (map entryOf xs′))
+  -- the entries of two calls that agree but for what is filed
+  pub entries-same : (es es′ : List Entry) → map forgotten es ≡ map forgotten es′ → SameEntries (bytesOfEntries account es) (bytesOfEntries account es′)
   unfolding bytesOfEntries
   entries-same [] [] h = no-entry
-  entries-same [] (x′ ∷ xs′) h = let z : _≡_ {A = ℕ} 0 1 = cc in absurd (omega arith)
-  entries-same (x ∷ xs) [] h = let z : _≡_ {A = ℕ} 0 1 = cc in absurd (omega arith)
-  entries-same (x ∷ xs) (x′ ∷ xs′) h =
-      let head : entryThrough forget x ≡ entryThrough forget x′ = cc in
-      let tail : map (entryThrough forget) xs ≡ map (entryThrough forget) xs′ = cc in
-      entry account (entryOf x) (entryOf x′) (rule-entry-same x x′ head) (entries-same xs xs′ tail)
+  entries-same [] (e′ ∷ es′) h = let z : _≡_ {A = ℕ} 0 1 = cc in absurd (omega arith)
+  entries-same (e ∷ es) [] h = let z : _≡_ {A = ℕ} 0 1 = cc in absurd (omega arith)
+  entries-same (e ∷ es) (e′ ∷ es′) h =
+      let head : forgotten e ≡ forgotten e′ = cc in
+      let tail : map forgotten es ≡ map forgotten es′ = cc in
+      entry account e e′ (two-same e e′ head) (entries-same es es′ tail)
 
 -- entries that agree but for their seconds are as long as each other
 pub same-length : {bytes bytes′ : List ℕ} → SameEntries bytes bytes′ → length bytes ≡ length bytes′

@@ -1,4 +1,4 @@
--- What a message comes to, by its answer: the run stops at refusals 1 and 2, and passes a message that got another by its whole length.
+-- What a message comes to, by its reply: the run stops at refusals 1 and 2, and passes a message that got another by its whole length.
 -- Assumes nothing.
 use Prim.Native.Nat.{ℕ, _≤_}
 use mathlib.Core.Path.{_≡_, refl}
@@ -6,8 +6,8 @@ use mathlib.Core.Logic.{_⊎_, inl, inr}
 use mathlib.Core.Bool.{Bool, true, false, cond}
 use lib.Dec.{leb}
 use borrow.Author.Tests.{lt-leb}
-use Rattle.register.specs.declared.Answer.{Answer}
-use Rattle.register.specs.declared.Answer.the-variants.{Refused, Taken}
+use Rattle.register.specs.declared.Reply.{Reply}
+use Rattle.register.specs.declared.Reply.the-variants.{Refused, Taken}
 use Rattle.register.specs.declared.runs.Passed.{Passed}
 use Rattle.register.specs.Call.{writtenOf}
 use Rattle.register.specs.Run.{passedOf}
@@ -19,8 +19,8 @@ passed-stops n whole (inr e) = rw e
 pub passed-skips : (n whole : ℕ) → 3 ≤ n → passedOf (Refused n) whole ≡ record { refused = 1; consumed = whole; written = 0; stops = false }
 passed-skips n whole h = rw (lt-leb n 2 h)
 
--- as much is written as the answer says
-pub passed-written : (answer : Answer) (whole : ℕ) → passedOf answer whole .written ≡ writtenOf answer
+-- as much is written as the reply says
+pub passed-written : (reply : Reply) (whole : ℕ) → passedOf reply whole .written ≡ writtenOf reply
 passed-written (Taken consumed written) whole = refl
 passed-written (Refused n) whole = go (leb n 2)
   where

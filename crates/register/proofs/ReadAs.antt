@@ -1,7 +1,7 @@
 -- What the reader gives, on the message's own bytes: the tests of the reader in their order, and where none holds the message whose numbers these are.
 -- Each way out is a law of the reader; what is new is that a number of two or four bytes is plain arithmetic, and a kind's length 15 or 11.
 -- Assumes nothing.
-use Prim.Native.Nat.{ℕ, _≤_}
+use Prim.Native.Nat.{ℕ, zero, suc, _≤_}
 use mathlib.Core.Path.{_≡_, refl, sym, _∙_, ap}
 use mathlib.Core.Bool.{Bool, true, false, cond, _&&_, not, true≢false, false≢true}
 use mathlib.Core.List.{List}
@@ -10,20 +10,20 @@ use lib.Dec.{eqb, leb, ltb}
 use lib.ListN.{length, getD}
 use borrow.Author.Tests.{eqb-true, eqb-false, ltb-true, ltb-false, leb-true, leb-false}
 use Rattle.layout.specs.Number.{numberAt}
-use Rattle.layout.specs.Fields.{rowOf, wholeOf}
+use Rattle.layout.specs.Fields.{rowOfKind, wholeOf}
 use Rattle.events.specs.Kinds.{eventOf}
 use Rattle.message.specs.declared.Heading.{Heading}
 use Rattle.message.specs.declared.Message.{Message}
 use Rattle.message.specs.declared.Message.the-variants.{Request, Commit, Abort}
 use Rattle.message.specs.declared.Reading.the-variants as Reading′
-use Rattle.message.specs.Bytes.{messages, headingOf, messageBy}
+use Rattle.message.specs.Bytes.{messages, kindOf, headingOf, messageBy}
 use Rattle.message.specs.Answers.{readOf}
 use Rattle.message.proofs.Lengths.{with-amount, without-amount, below-kinds, above-kinds}
 use Rattle.message.proofs.Reader.{headingAt, read-empty, read-unknown, read-short, read-account, read-taken}
 use Rattle.register.specs.Refusals.{transactionIn, accountIn, lengthBy}
 
 -- a message of a kind has the heading that it is made with
-heading-by : (kind : ℕ) (h : Heading) (amount : ℕ) → headingOf (messageBy kind h amount) ≡ h
+pub heading-by : (kind : ℕ) (h : Heading) (amount : ℕ) → headingOf (messageBy kind h amount) ≡ h
 unfolding messageBy
 heading-by kind h amount = go (eqb kind 5) (eqb kind 6)
   where
@@ -31,6 +31,18 @@ heading-by kind h amount = go (eqb kind 5) (eqb kind 6)
     go true c = refl
     go false true = refl
     go false false = refl
+
+-- and that kind
+pub kind-by : (kind : ℕ) (h : Heading) (amount : ℕ) → 1 ≤ kind → kind ≤ 6 → kindOf (messageBy kind h amount) ≡ kind
+unfolding messageBy eventOf
+kind-by zero h amount l u = absurd (omega arith)
+kind-by (suc zero) h amount l u = refl
+kind-by (suc (suc zero)) h amount l u = refl
+kind-by (suc (suc (suc zero))) h amount l u = refl
+kind-by (suc (suc (suc (suc zero)))) h amount l u = refl
+kind-by (suc (suc (suc (suc (suc zero))))) h amount l u = refl
+kind-by (suc (suc (suc (suc (suc (suc zero)))))) h amount l u = refl
+kind-by (suc (suc (suc (suc (suc (suc (suc kind))))))) h amount l u = absurd (omega arith)
 
 module _ (bytes : List ℕ) where
   -- numbers of one, two and four bytes
@@ -57,19 +69,19 @@ module _ (bytes : List ℕ) where
   named-account = ap (λ (h : Heading). h .account) (heading-by kindIn (headingAt bytes) (numberAt bytes 11 4)) ∙ account-at
 
   -- a known kind's length
-  whole-known : leb 1 kindIn && leb kindIn 6 ≡ true → wholeOf (rowOf messages kindIn) ≡ lengthBy kindIn
+  whole-known : leb 1 kindIn && leb kindIn 6 ≡ true → wholeOf (rowOfKind messages kindIn) ≡ lengthBy kindIn
   whole-known e = go (leb 1 kindIn) (leb kindIn 6) (leb kindIn 3) refl refl refl e
     where
-      go : (a b c : Bool) → leb 1 kindIn ≡ a → leb kindIn 6 ≡ b → leb kindIn 3 ≡ c → a && b ≡ true → wholeOf (rowOf messages kindIn) ≡ cond c 15 11
+      go : (a b c : Bool) → leb 1 kindIn ≡ a → leb kindIn 6 ≡ b → leb kindIn 3 ≡ c → a && b ≡ true → wholeOf (rowOfKind messages kindIn) ≡ cond c 15 11
       go false b c p q s e = absurd (false≢true e)
       go true false c p q s e = absurd (false≢true e)
       go true true true p q s e = with-amount kindIn (leb-true 1 kindIn p) (leb-true kindIn 3 s)
       go true true false p q s e = without-amount kindIn (leb-false kindIn 3 s) (leb-true kindIn 6 q)
 
-  whole-unknown : leb 1 kindIn && leb kindIn 6 ≡ false → wholeOf (rowOf messages kindIn) ≡ 0
+  whole-unknown : leb 1 kindIn && leb kindIn 6 ≡ false → wholeOf (rowOfKind messages kindIn) ≡ 0
   whole-unknown e = go (leb 1 kindIn) (leb kindIn 6) refl refl e
     where
-      go : (a b : Bool) → leb 1 kindIn ≡ a → leb kindIn 6 ≡ b → a && b ≡ false → wholeOf (rowOf messages kindIn) ≡ 0
+      go : (a b : Bool) → leb 1 kindIn ≡ a → leb kindIn 6 ≡ b → a && b ≡ false → wholeOf (rowOfKind messages kindIn) ≡ 0
       go true true p q e = absurd (true≢false e)
       go true false p q e = above-kinds kindIn (leb-false kindIn 6 q)
       go false b p q e = below-kinds kindIn (leb-false 1 kindIn p)

@@ -6,21 +6,22 @@ use Rattle.rule.specs.InOrder.{isInOrder}
 use Rattle.rule.specs.Outcome.{outcomes}
 use Rattle.rule.specs.Step.{settle, asked, committing, aborting}
 use Rattle.rule.specs.Weigh.{weigh, decide}
-use Rattle.account.specs.InOrder.{inOrderOf}
+use Rattle.account.specs.InOrder.{inOrderBy}
 use Rattle.events.specs.Events.{effectOf}
 use Rattle.account.specs.Places.{listsOf, accountOf}
-use Rattle.account.specs.Steps.{entriesOf, stepOf}
+use Rattle.filing.specs.Entries.{entriesOf}
+use Rattle.account.specs.Steps.{stepBy}
 use Rattle.events.specs.Kinds.{eventOf}
-use Rattle.layout.specs.Fields.{written, numbersAt, rowOf}
+use Rattle.layout.specs.Fields.{written, numbersAt, rowOfKind}
 use Rattle.layout.specs.Number.{bytesOf, numberAt}
 use Rattle.message.specs.Answers.{readOf}
 use Rattle.message.specs.Bytes.{messages, messageBy}
 use Rattle.entry.specs.Bytes.{entryRows, bytesOfEntry, bytesOfEntries}
-use Rattle.register.specs.Register.{freshRegister}
-use Rattle.register.specs.Call.{afterMessage, callOf}
-use Rattle.register.specs.Run.{runFrom, runOf}
+use Rattle.register.specs.Register.{freshBy, sentBy}
+use Rattle.register.specs.Call.{afterMessage, calledBy}
+use Rattle.register.specs.Run.{runFrom, runBy}
 use Rattle.register.specs.Samples.{samples, SamplesHold}
 
 pub samples-hold : SamplesHold
-unfolding call isInOrder outcomes settle asked committing aborting weigh decide inOrderOf effectOf listsOf accountOf entriesOf stepOf eventOf written numbersAt rowOf bytesOf numberAt readOf messages messageBy entryRows bytesOfEntry bytesOfEntries freshRegister afterMessage callOf runFrom runOf samples
+unfolding call isInOrder outcomes settle asked committing aborting weigh decide inOrderBy effectOf listsOf accountOf entriesOf stepBy eventOf written numbersAt rowOfKind bytesOf numberAt readOf messages messageBy entryRows bytesOfEntry bytesOfEntries freshBy sentBy afterMessage calledBy runFrom runBy samples
 samples-hold = (refl, refl)

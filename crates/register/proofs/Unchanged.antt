@@ -1,38 +1,41 @@
--- What a call leaves: by cases on what was read, on the buffer's length and on the named account's answer. That a refusal's number is from the list is read off the list of tests.
+-- What a message that is sent, and a call, leave: each by what it comes to. That a refusal's number is from the list is read off the list of tests.
 -- Assumes nothing.
 use Prim.Native.Nat.{ℕ, _≤_}
 use mathlib.Core.Path.{_≡_, refl, sym, _∙_, ap, ap₂}
 use mathlib.Core.Bool.{Bool, true, false, cond, _&&_}
-use mathlib.Core.List.{List, [], _∷_}
+use mathlib.Core.List.{List, [], _∷_, map}
 use mathlib.Core.Option.{none, some}
 use native.Mathlib.Omega.{arith}
-use lib.Dec.{leb, ltb}
+use lib.Dec.{leb}
 use lib.ListN.{length, drop, length-append, length-drop, length-set}
 use lib.Seq.{drop-append-seam, getD-set-other}
-use borrow.Author.Tests.{leb-true, ltb-false}
+use borrow.Author.Tests.{leb-true}
 use Rattle.rule.specs.Lists.{every}
+use Rattle.rule.specs.Rule.{Rule}
+use Rattle.rule.specs.Tests.{Test, firstOf}
 use Rattle.rule.proofs.Lists.{and-left, and-right}
-use Rattle.account.specs.declared.Account.{Account}
-use Rattle.account.specs.declared.Answer.{Answer as StepAnswer}
-use Rattle.account.specs.declared.Answer.the-variants as Step′
-use Rattle.account.specs.declared.Entries.{Entries}
-use Rattle.layout.specs.Answers.{Test, firstOf}
+use Rattle.events.specs.declared.Event.{Event}
+use Rattle.events.specs.declared.State.{State}
+use Rattle.filing.specs.Entries.{entryOf, entriesOf}
+use Rattle.account.specs.Places.{accountOf}
+use Rattle.account.specs.Steps.{refusalIn}
 use Rattle.message.specs.declared.Message.{Message}
-use Rattle.message.specs.declared.Reading.{Reading}
-use Rattle.message.specs.declared.Reading.the-variants as Reading′
 use Rattle.message.specs.Bytes.{headingOf}
-use Rattle.message.specs.Answers.{readOf}
-use Rattle.entry.specs.Bytes.{bytesOfEntries, listOf}
+use Rattle.entry.specs.Bytes.{bytesOfEntries}
 use Rattle.entry.specs.Answers.{longestCall}
-use Rattle.entry.proofs.CallFits.{calls-fit}
 use Rattle.register.specs.declared.Register.{Register}
-use Rattle.register.specs.declared.Answer.the-variants.{Refused, Taken}
-use Rattle.register.specs.Register.{nowhere, accountAt, ruleMessage, stepBy}
-use Rattle.register.specs.Call.{Result, refusalOf, consumedOf, writtenOf, refusedWith, afterStep, afterMessage, afterReading, callOf}
-use Rattle.register.specs.Refusals.{standingAt, callTests}
-use Rattle.register.specs.Unchanged.{Refusal, Taking, AnswersApart}
-use Rattle.register.proofs.ReadAs.{read-as, account-read}
+use Rattle.register.specs.declared.Sent.{Sent}
+use Rattle.register.specs.declared.Reply.the-variants.{Refused, Taken}
+use Rattle.register.specs.Register.{nowhere, accountAt}
+use Rattle.register.specs.Call.{Result, refusalOf, consumedOf, writtenOf, refusedWith, calledBy}
+use Rattle.register.specs.Refusals.{accountIn, lengthBy, callTests}
+use Rattle.register.specs.Unchanged.{SendLeaves, Refusal, Taking, RepliesApart}
+use Rattle.register.proofs.Suits.{Suits}
+use Rattle.register.proofs.ReadAs.{kindIn, read-as, account-read}
 use Rattle.register.proofs.Refusals.{call-refuses}
+use Rattle.register.proofs.Sending as send
+use Rattle.register.proofs.Sending.{taking, Sending, sending, taken-bytes}
+use Rattle.register.proofs.Calling.{Calling, refused, taken, calling}
 
 -- a number of the list
 abbrev inList : ℕ → Bool
@@ -49,42 +52,37 @@ first-in-list (t ∷ tests) n h e = go (t .holds) e (λ k. first-in-list tests n
 not-none : (n : ℕ) → some n ≡ none → ⊥
 not-none n h = let z : _≡_ {A = ℕ} 0 1 = cc in omega arith
 
-module _ (r : Register) (bytes buffer : List ℕ) where
-  -- a result that is a refusal is the refusal
-  Same : Result → Type 0
-  Same result = (n : ℕ) → refusalOf (result .answer) ≡ some n → result ≡ refusedWith r buffer n
+module _ (R : Rule State Event ℕ) (r : Register) (m : Message) where
+  -- what is sent, by what it comes to
+  record Parts (sent : Sent) : Type 0 where
+    same : (n : ℕ) → refusalIn (sent .answer) ≡ some n → (sent .register ≡ r) × (sent .entries ≡ entriesOf [])
+    count : length (sent .register .accounts) ≡ length (r .accounts)
+    others : (j : ℕ) → (j ≡ headingOf m .account → ⊥) → accountAt (sent .register) j ≡ accountAt r j
 
-  same-refused : (k : ℕ) → Same (refusedWith r buffer k)
-  unfolding Same
-  same-refused k n h = let z : k ≡ n = cc in rw z
-
-  same-step : (i consumed : ℕ) (answer : StepAnswer) (next : Account) (entries : Entries) → Same (afterStep r buffer i consumed answer next entries)
-  unfolding Same
-  same-step i consumed (Step′.Refused k) next entries = same-refused k
-  same-step i consumed Step′.Taken next entries = λ n h. let z : _≡_ {A = ℕ} 0 1 = cc in absurd (omega arith)
-
-  same-cond : (b : Bool) (x y : Result) → Same x → Same y → Same (cond b x y)
-  unfolding Same
-  same-cond true x y h k = h
-  same-cond false x y h k = k
-
-  same-reading : (x : Reading) → Same (afterReading r buffer x)
-  unfolding afterMessage
-  same-reading (Reading′.Refused k) = same-refused k
-  same-reading (Reading′.Message m consumed) =
+  parts : {sent : Sent} → Sending R r m sent → Parts sent
+  parts (send.refused k high) = record { same = λ n h. (refl, refl); count = refl; others = λ j other. refl }
+  parts (send.taken free) =
       let i = headingOf m .account in
-      let called = stepBy (accountAt r i) m in
-      same-cond (ltb (length buffer) longestCall) (refusedWith r buffer 4) (afterStep r buffer i consumed (called .answer) (called .account) (called .entries))
-      (same-refused 4) (same-step i consumed (called .answer) (called .account) (called .entries))
+      let next = accountOf (taking R r m .account) in
+      record {
+        same = λ n h. absurd (not-none n (sym h));
+        count = length-set (r .accounts) i next;
+        others = λ j other. getD-set-other (r .accounts) i j next nowhere other;
+      }
 
-  call-refused : (n : ℕ) → refusalOf (callOf r bytes buffer .answer) ≡ some n → callOf r bytes buffer ≡ refusedWith r buffer n
-  unfolding callOf Same
-  call-refused n h = same-reading (readOf bytes) n h
+  pub send-leaves : SendLeaves R r m
+  send-leaves = let p = parts (sending R r m) in record { refused = p .same; count = p .count; others = p .others }
 
-  pub refusal : (n : ℕ) → refusalOf (callOf r bytes buffer .answer) ≡ some n → Refusal r bytes buffer n
+module _ (R : Rule State Event ℕ) (k : Suits R) (r : Register) (bytes buffer : List ℕ) where
+  -- a call that is refused is the refusal
+  is-refusal : {x : Result} → Calling R r bytes buffer x → (n : ℕ) → refusalOf (x .reply) ≡ some n → x ≡ refusedWith r buffer n
+  is-refusal (refused j why) n h = let z : j ≡ n = cc in rw z
+  is-refusal (taken m consumed t) n h = absurd (not-none n (sym h))
+
+  pub refusal : (n : ℕ) → refusalOf (calledBy R r bytes buffer .reply) ≡ some n → Refusal R r bytes buffer n
   refusal n h =
-      let e = call-refused n h in
-      let listed = first-in-list (callTests r bytes buffer) n refl (sym (call-refuses r bytes buffer) ∙ h) in
+      let e = is-refusal (calling R r bytes buffer) n h in
+      let listed = first-in-list (callTests R r bytes buffer) n refl (sym (call-refuses R r bytes buffer) ∙ h) in
       record {
         lowest = leb-true 1 n (and-left (leb 1 n) (leb n 11) listed);
         highest = leb-true n 11 (and-right (leb 1 n) (leb n 11) listed);
@@ -94,69 +92,41 @@ module _ (r : Register) (bytes buffer : List ℕ) where
         buffer′ = rw e;
       }
 
-  -- a result that is taken, of the account of that number and a message of that length
-  record Parts (i consumed : ℕ) (result : Result) : Type 0 where
-    passed : consumedOf (result .answer) ≡ consumed
-    room : writtenOf (result .answer) ≤ length buffer
-    size : length (result .buffer) ≡ length buffer
-    rest : drop (writtenOf (result .answer)) (result .buffer) ≡ drop (writtenOf (result .answer)) buffer
-    count : length (result .register .accounts) ≡ length (r .accounts)
-    others : (j : ℕ) → (j ≡ i → ⊥) → standingAt (result .register) j ≡ standingAt r j
+  -- a call that is taken
+  record Changes (x : Result) : Type 0 where
+    consumed : consumedOf (x .reply) ≡ lengthBy (kindIn bytes)
+    whole : lengthBy (kindIn bytes) ≤ length bytes
+    room : writtenOf (x .reply) ≤ length buffer
+    size : length (x .buffer) ≡ length buffer
+    rest : drop (writtenOf (x .reply)) (x .buffer) ≡ drop (writtenOf (x .reply)) buffer
+    count : length (x .register .accounts) ≡ length (r .accounts)
+    others : (j : ℕ) → (j ≡ accountIn bytes → ⊥) → accountAt (x .register) j ≡ accountAt r j
 
-  parts-step : (i consumed : ℕ) (answer : StepAnswer) (next : Account) (entries : Entries) → length (bytesOfEntries i (listOf entries)) ≤ length buffer
-      → refusalOf (afterStep r buffer i consumed answer next entries .answer) ≡ none → Parts i consumed (afterStep r buffer i consumed answer next entries)
-  parts-step i consumed (Step′.Refused k) next entries l h = absurd (not-none k h)
-  parts-step i consumed Step′.Taken next entries l h =
-      let filed = bytesOfEntries i (listOf entries) in
+  changes : {x : Result} → Calling R r bytes buffer x → refusalOf (x .reply) ≡ none → Changes x
+  changes (refused n why) h = absurd (not-none n h)
+  changes (taken m consumed t) h =
+      let i = headingOf m .account in
+      let next = accountOf (taking R r m .account) in
+      let written = bytesOfEntries i (map entryOf (taking R r m .entries)) in
+      let fits : length written ≤ longestCall = taken-bytes R r m k (t .free) i in
+      let read = read-as bytes m consumed (t .read) in
       record {
-        passed = refl;
-        room = l;
-        size = rw (length-append, length-drop) (omega arith);
-        rest = drop-append-seam filed (drop (length filed) buffer);
+        consumed = read .length′;
+        whole = read .whole;
+        room = omega (arith, fits, t .room);
+        size = rw (length-append, length-drop) (omega (arith, fits, t .room));
+        rest = drop-append-seam written (drop (length written) buffer);
         count = length-set (r .accounts) i next;
-        others = λ j other. getD-set-other (r .accounts) i j next nowhere other;
+        others = λ j other. getD-set-other (r .accounts) i j next nowhere (λ e. other (e ∙ account-read bytes m consumed (t .read)));
       }
 
-  parts-message : (m : Message) (consumed : ℕ) → refusalOf (afterMessage r buffer m consumed .answer) ≡ none → Parts (headingOf m .account) consumed (afterMessage r buffer m consumed)
-  unfolding afterMessage
-  parts-message m consumed h = go (ltb (length buffer) longestCall) refl h
-    where
-      i : ℕ
-      i = headingOf m .account
+  pub call-takes : refusalOf (calledBy R r bytes buffer .reply) ≡ none → Taking R r bytes buffer
+  call-takes h =
+      let c = changes (calling R r bytes buffer) h in
+      record { consumed = c .consumed; whole = c .whole; room = c .room; size = c .size; rest = c .rest; count = c .count; others = c .others }
 
-      a : Account
-      a = accountAt r i
-
-      result : Bool → Result
-      result b = cond b (refusedWith r buffer 4) (afterStep r buffer i consumed (stepBy a m .answer) (stepBy a m .account) (stepBy a m .entries))
-
-      go : (b : Bool) → ltb (length buffer) longestCall ≡ b → refusalOf (result b .answer) ≡ none → Parts i consumed (result b)
-      go true l h = absurd (not-none 4 h)
-      go false l h =
-          parts-step i consumed (stepBy a m .answer) (stepBy a m .account) (stepBy a m .entries)
-          (omega (arith, ltb-false (length buffer) longestCall l, calls-fit a (ruleMessage m) .bytes i)) h
-
-  pub taking : refusalOf (callOf r bytes buffer .answer) ≡ none → Taking r bytes buffer
-  unfolding callOf
-  taking h = go (readOf bytes) refl h
-    where
-      go : (x : Reading) → readOf bytes ≡ x → refusalOf (afterReading r buffer x .answer) ≡ none → Taking r bytes buffer
-      go (Reading′.Refused k) q h = absurd (not-none k h)
-      go (Reading′.Message m consumed) q h =
-          let read = read-as bytes m consumed q in
-          let parts = parts-message m consumed h in
-          record {
-            consumed = rw q (parts .passed ∙ read .length′);
-            whole = read .whole;
-            room = rw q (parts .room);
-            size = rw q (parts .size);
-            rest = rw q (parts .rest);
-            count = rw q (parts .count);
-            others = λ j other. rw q (parts .others j (λ e. other (e ∙ account-read bytes m consumed q)));
-          }
-
-pub answers-apart : AnswersApart
-answers-apart (Refused n) (Refused k) h c w = ap Refused (let z : n ≡ k = cc in z)
-answers-apart (Refused n) (Taken consumed written) h c w = let z : _≡_ {A = ℕ} 0 1 = cc in absurd (omega arith)
-answers-apart (Taken consumed written) (Refused k) h c w = let z : _≡_ {A = ℕ} 0 1 = cc in absurd (omega arith)
-answers-apart (Taken consumed written) (Taken consumed′ written′) h c w = ap₂ Taken c w
+pub replies-apart : RepliesApart
+replies-apart (Refused n) (Refused k) h c w = ap Refused (let z : n ≡ k = cc in z)
+replies-apart (Refused n) (Taken consumed written) h c w = let z : _≡_ {A = ℕ} 0 1 = cc in absurd (omega arith)
+replies-apart (Taken consumed written) (Refused k) h c w = let z : _≡_ {A = ℕ} 0 1 = cc in absurd (omega arith)
+replies-apart (Taken consumed written) (Taken consumed′ written′) h c w = ap₂ Taken c w

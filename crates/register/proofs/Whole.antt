@@ -11,7 +11,7 @@ use lib.Dec.{leb}
 use lib.ListN.{getD}
 use borrow.Author.Tests.{leb-true, leb-false}
 use Rattle.layout.specs.Number.{numberAt}
-use Rattle.layout.specs.Fields.{Row, rowOf, wholeOf, thenOf, total}
+use Rattle.layout.specs.Fields.{KindRow, rowOfKind, wholeOf, thenOf, total}
 use Rattle.layout.proofs.Tables.{present, unknown}
 use Rattle.message.specs.Bytes.{messages}
 use Rattle.message.proofs.Lengths.{with-amount as kind-with-amount, without-amount as kind-without-amount, below-kinds, above-kinds}
@@ -28,7 +28,7 @@ unfolding numberAt
 first-byte bytes = zero-add (getD bytes 0 0)
 
 -- each row of the table has the length of its kind
-pub row-length : (bytes : List ℕ) (r : Row) → rowOf messages (numberAt bytes 0 1) ≡ some r → Whole bytes (r .whole)
+pub row-length : (bytes : List ℕ) (r : KindRow) → rowOfKind messages (numberAt bytes 0 1) ≡ some r → Whole bytes (r .whole)
 unfolding messages
 row-length bytes r e = go (leb 1 kind) (leb kind 3) (leb kind 6) refl refl refl
   where
@@ -38,9 +38,9 @@ row-length bytes r e = go (leb 1 kind) (leb kind 3) (leb kind 6) refl refl refl
     same : kind ≡ getD bytes 0 0
     same = first-byte bytes
 
-    missing : wholeOf (rowOf messages kind) ≡ 0 → ⊥
+    missing : wholeOf (rowOfKind messages kind) ≡ 0 → ⊥
     missing q =
-        let gone : rowOf messages kind ≡ none = unknown messages kind (omega arith) q in
+        let gone : rowOfKind messages kind ≡ none = unknown messages kind (omega arith) q in
         let z : _≡_ {A = ℕ} 0 1 = cc in omega arith
 
     go : (a b c : Bool) → leb 1 kind ≡ a → leb kind 3 ≡ b → leb kind 6 ≡ c → Whole bytes (r .whole)
@@ -56,12 +56,12 @@ row-length bytes r e = go (leb 1 kind) (leb kind 3) (leb kind 6) refl refl refl
     go false b c p q s = absurd (missing (below-kinds kind (leb-false 1 kind p)))
 
 -- and what follows the heading makes up the rest of it
-pub row-total : (bytes : List ℕ) (r : Row) → rowOf messages (numberAt bytes 0 1) ≡ some r → 11 + total (r .then) ≡ r .whole
-unfolding messages rowOf
+pub row-total : (bytes : List ℕ) (r : KindRow) → rowOfKind messages (numberAt bytes 0 1) ≡ some r → 11 + total (r .then) ≡ r .whole
+unfolding messages rowOfKind
 row-total bytes r e =
-    let some-length : 0 < wholeOf (rowOf messages (numberAt bytes 0 1)) = rw e (some-bytes (row-length bytes r e)) in
+    let some-length : 0 < wholeOf (rowOfKind messages (numberAt bytes 0 1)) = rw e (some-bytes (row-length bytes r e)) in
     rw e at
-    (present (λ (k : ℕ). 11 + total (thenOf (rowOf messages k)) ≡ wholeOf (rowOf messages k)) messages (numberAt bytes 0 1) (refl, (refl, (refl, (refl, (refl, (refl, tt)))))) some-length)
+    (present (λ (k : ℕ). 11 + total (thenOf (rowOfKind messages k)) ≡ wholeOf (rowOfKind messages k)) messages (numberAt bytes 0 1) (refl, (refl, (refl, (refl, (refl, (refl, tt)))))) some-length)
 
 -- bytes have one length only, and it goes by the first byte
 pub one-length : {bytes : List ℕ} {whole whole′ : ℕ} → Whole bytes whole → Whole bytes whole′ → whole ≡ whole′

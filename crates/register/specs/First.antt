@@ -9,6 +9,9 @@ use Rattle.register.specs.declared.Register.{Register}
 use Rattle.register.specs.declared.Sent.{Sent}
 use Rattle.register.specs.Register.{freshBy, sentBy, askedBy}
 use Rattle.register.specs.Call.{Result, calledBy}
+use Rattle.register.specs.Sequence as sequence
+use Rattle.register.specs.Sequence.{Input, Exchange}
+use Rattle.register.specs.Run.{Run, runBy, Exported, exported}
 
 -- the fresh register, a message sent to a register, the outcome question, and the call
 abbrev pub freshRegister : Register
@@ -22,3 +25,17 @@ outlookIn r i n = askedBy panel r i n
 
 abbrev pub callOf : Register → (bytes buffer : List ℕ) → Result
 callOf r bytes buffer = calledBy panel r bytes buffer
+
+-- the register after a sequence of calls, and what is seen of them
+abbrev pub after : Register → List Input → Register
+after r inputs = sequence.after panel r inputs
+
+abbrev pub exchanges : Register → List Input → List Exchange
+exchanges r inputs = sequence.exchanges panel r inputs
+
+-- a run of messages, and what is exported of it
+abbrev pub runOf : (bytes buffer : List ℕ) → Run
+runOf bytes buffer = runBy panel bytes buffer
+
+abbrev pub exportOf : (messages entries counts : List ℕ) → Exported
+exportOf messages entries counts = exported (runOf messages entries) counts

@@ -5,13 +5,15 @@ use Rattle.events.specs.declared.Event.{Event}
 use Rattle.events.specs.declared.State.{State}
 use Rattle.events.specs.Events.{limit}
 use Rattle.events.specs.Kinds.{amountOf}
+use Rattle.filing.specs.declared.Filed.{Filed}
+use Rattle.layout.specs.Heading.{FiledFits}
 
--- each of these numbers has 4 bytes
-abbrev pub EventFits : ℕ → ℕ → Event → Type 0
-EventFits t g e = (t < 256 ^ 4) × (g < 256 ^ 4) × (amountOf e < 256 ^ 4)
+-- transaction and amount have 4 bytes each
+abbrev pub EventFits : ℕ → Filed → Event → Type 0
+EventFits t g e = (t < 256 ^ 4) × FiledFits g × (amountOf e < 256 ^ 4)
 
-abbrev pub CommitFits : ℕ → ℕ → Type 0
-CommitFits t g = (t < 256 ^ 4) × (g < 256 ^ 4)
+abbrev pub CommitFits : ℕ → Filed → Type 0
+CommitFits t g = (t < 256 ^ 4) × FiledFits g
 
 -- the balance is within the limit (2.1), which has room in 4 bytes
 abbrev pub StateFits : State → Type 0

@@ -7,19 +7,20 @@ use mathlib.Core.Option.{none}
 use lib.ListN.{getD, take, drop}
 use Rattle.rule.specs.Rule as rule
 use Rattle.events.specs.declared.Event.{Event}
+use Rattle.events.specs.declared.State.{State}
+use Rattle.filing.specs.declared.Filed.{Filed}
 use Rattle.layout.specs.Number.{AreBytes}
 use Rattle.message.specs.declared.Message.the-variants.{Request, Commit, Abort}
 use Rattle.register.specs.declared.Register.{Register}
 use Rattle.register.specs.Register.{ruleMessage}
-use Rattle.register.specs.Call.{refusalOf, writtenOf}
-use Rattle.register.specs.First.{callOf}
+use Rattle.register.specs.Call.{refusalOf, writtenOf, calledBy}
 
 -- a message of kind `getD bytes 0 0`, and the entries that were written for it
 pub record OwnEntry (bytes : List ℕ) (written : ℕ) (entries : List ℕ) : Type 0 where
   -- transaction and account are the message's, of every kind,
   pub heading : take 6 (drop 1 entries) ≡ take 6 (drop 1 bytes)
-  -- and the second too, but of an abort, whose second stands nowhere
-  pub second : getD bytes 0 0 ≤ 5 → take 4 (drop 7 entries) ≡ take 4 (drop 7 bytes)
+  -- and what is filed too, behind them, but of an abort, of which nothing is filed
+  pub filed : getD bytes 0 0 ≤ 5 → take 4 (drop 7 entries) ≡ take 4 (drop 7 bytes)
   -- a request has one entry, a vote of 18 bytes, with its event's kind and amount; Close brings no amount and has 0
   pub vote : getD bytes 0 0 ≤ 4 → (17 ≤ getD entries 0 0) × (getD entries 0 0 ≤ 19) × (written ≡ 18)
   pub event : getD bytes 0 0 ≤ 4 → getD entries 11 0 ≡ getD bytes 0 0
@@ -30,13 +31,13 @@ pub record OwnEntry (bytes : List ℕ) (written : ℕ) (entries : List ℕ) : Ty
   pub dropped : getD bytes 0 0 ≡ 6 → getD entries 0 0 ≡ 22
 
 -- of every message that is taken
-abbrev pub EachOwnEntry : Type 0
-EachOwnEntry =
-    (r : Register) (bytes buffer : List ℕ) → AreBytes bytes → refusalOf (callOf r bytes buffer .reply) ≡ none
-    → OwnEntry bytes (writtenOf (callOf r bytes buffer .reply)) (callOf r bytes buffer .buffer)
+abbrev pub EachOwnEntry : rule.Rule State Event ℕ → Type 0
+EachOwnEntry R =
+    (r : Register) (bytes buffer : List ℕ) → AreBytes bytes → refusalOf (calledBy R r bytes buffer .reply) ≡ none
+    → OwnEntry bytes (writtenOf (calledBy R r bytes buffer .reply)) (calledBy R r bytes buffer .buffer)
 
--- a message as the rule has it: its own transaction, its own second, its own event
-pub record Brings (t i s : ℕ) : Type 0 where
-  pub request : (e : Event) → ruleMessage (Request (record { transaction = t; account = i; second = s }) e) ≡ rule.request t s e
-  pub commit : ruleMessage (Commit (record { transaction = t; account = i; second = s })) ≡ rule.commit t s
-  pub abort : ruleMessage (Abort (record { transaction = t; account = i; second = s })) ≡ rule.abort t s
+-- a message as the rule has it: its own transaction, its own filing, its own event
+pub record Brings (t i : ℕ) (g : Filed) : Type 0 where
+  pub request : (e : Event) → ruleMessage (Request (record { transaction = t; account = i; filed = g }) e) ≡ rule.request t g e
+  pub commit : ruleMessage (Commit (record { transaction = t; account = i; filed = g })) ≡ rule.commit t g
+  pub abort : ruleMessage (Abort (record { transaction = t; account = i; filed = g })) ≡ rule.abort t g

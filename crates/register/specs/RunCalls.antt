@@ -6,15 +6,17 @@ use mathlib.Core.Path.{_≡_}
 use mathlib.Core.Logic.{_⊎_}
 use mathlib.Core.List.{List, [], _∷_, _++_}
 use lib.ListN.{length, take, drop}
+use Rattle.rule.specs.Rule.{Rule}
+use Rattle.events.specs.declared.Event.{Event}
+use Rattle.events.specs.declared.State.{State}
 use Rattle.layout.specs.Number.{AreBytes}
 use Rattle.register.specs.declared.Register.{Register}
 use Rattle.register.specs.declared.Reply.{Reply}
 use Rattle.register.specs.declared.Reply.the-variants.{Refused, Taken}
-use Rattle.register.specs.First.{freshRegister}
-use Rattle.register.specs.Sequence.{Input, Exchange, exchanges}
+use Rattle.register.specs.Register.{freshBy}
+use Rattle.register.specs.Sequence.{Input, Exchange, exchanges, SerialPast}
 use Rattle.register.specs.Whole.{Whole}
-use Rattle.register.specs.Demands.{SerialPast}
-use Rattle.register.specs.Run.{Run, runOf, numbersOf}
+use Rattle.register.specs.Run.{Run, runBy, numbersOf}
 
 -- The calls of a run: the bytes and the buffer that are left, what is handed to the calls from there on, what is seen of them, and how many bytes they pass.
 pub data Calls : (bytes buffer : List ℕ) → List Input → List Exchange → (passed : ℕ) → Type 0 where
@@ -58,19 +60,20 @@ pub record Sums (buffer : List ℕ) (seen : List Exchange) (passed : ℕ) (run :
   -- the entries, and the rest of the buffer as it was
   pub entries : run .entries ≡ entriesAmong seen ++ drop (length (entriesAmong seen)) buffer
 
-pub record IsCalls (r : Register) (bytes buffer : List ℕ) (run : Run) : Type 0 where
-  pub inputs : List Input
-  pub passed : ℕ
-  pub calls : Calls bytes buffer inputs (exchanges r inputs) passed
-  pub sums : Sums buffer (exchanges r inputs) passed run
+module _ (R : Rule State Event ℕ) where
+  pub record IsCalls (r : Register) (bytes buffer : List ℕ) (run : Run) : Type 0 where
+    pub inputs : List Input
+    pub passed : ℕ
+    pub calls : Calls bytes buffer inputs (exchanges R r inputs) passed
+    pub sums : Sums buffer (exchanges R r inputs) passed run
 
--- every run is its calls of a fresh register
-abbrev pub RunIsItsCalls : Type 0
-RunIsItsCalls = (bytes buffer : List ℕ) → IsCalls freshRegister bytes buffer (runOf bytes buffer)
+  -- every run is its calls of a fresh register
+  abbrev pub RunIsItsCalls : Type 0
+  RunIsItsCalls = (bytes buffer : List ℕ) → IsCalls (freshBy R) bytes buffer (runBy R bytes buffer)
 
--- Demand 3 (13.3) of a run, which is what is exported: of each of the sixteen accounts after its calls, by what was seen of them.
-abbrev pub RunDemand3 : Type 0
-RunDemand3 =
-    (bytes buffer : List ℕ) → AreBytes bytes → (i : ℕ) → i < 16 → (inputs : List Input) (passed : ℕ)
-    → Calls bytes buffer inputs (exchanges freshRegister inputs) passed
-    → SerialPast inputs i
+  -- Demand 3 (13.3) of a run, which is what is exported: of each of the sixteen accounts after its calls, by what was seen of them.
+  abbrev pub RunDemand3 : Type 0
+  RunDemand3 =
+      (bytes buffer : List ℕ) → AreBytes bytes → (i : ℕ) → i < 16 → (inputs : List Input) (passed : ℕ)
+      → Calls bytes buffer inputs (exchanges R (freshBy R) inputs) passed
+      → SerialPast R inputs i

@@ -4,9 +4,12 @@ use Prim.Native.Nat.{ℕ, _≤_}
 use mathlib.Core.Path.{_≡_}
 use mathlib.Core.List.{List}
 use lib.ListN.{length, take, drop}
+use Rattle.rule.specs.Rule.{Rule}
+use Rattle.events.specs.declared.Event.{Event}
+use Rattle.events.specs.declared.State.{State}
 use Rattle.register.specs.Whole.{Whole}
 use Rattle.register.specs.Seconds.{SameMessage, SameEntries}
-use Rattle.register.specs.Run.{Run, runOf}
+use Rattle.register.specs.Run.{Run, runBy}
 
 -- the messages that they begin with differ at most in the second, and so on behind each message that stands there whole
 pub data SameMessages : (bytes bytes′ : List ℕ) → Type 0 where
@@ -19,5 +22,5 @@ pub record SameRun (x y : Run) : Type 0 where
   pub entries : SameEntries (take (x .counts .written) (x .entries)) (take (y .counts .written) (y .entries))
   pub rest : drop (x .counts .written) (x .entries) ≡ drop (y .counts .written) (y .entries)
 
-abbrev pub RunSecondsNeverMatter : Type 0
-RunSecondsNeverMatter = (bytes bytes′ buffer : List ℕ) → SameMessages bytes bytes′ → SameRun (runOf bytes buffer) (runOf bytes′ buffer)
+abbrev pub RunSecondsNeverMatter : Rule State Event ℕ → Type 0
+RunSecondsNeverMatter R = (bytes bytes′ buffer : List ℕ) → SameMessages bytes bytes′ → SameRun (runBy R bytes buffer) (runBy R bytes′ buffer)

@@ -4,7 +4,8 @@ use Prim.Native.Nat.{ℕ, _-_}
 use mathlib.Core.Path.{_≡_}
 use mathlib.Core.List.{List, [], _∷_, _++_, map}
 use lib.ListN.{length, take, replicate}
-use Rattle.register.specs.Run.{runOf, numbersOf}
+use Rattle.register.specs.Run.{numbersOf}
+use Rattle.register.specs.First.{runOf}
 
 -- a sample: the messages, how many bytes of 0xa5 the entry buffer has; messages met, messages refused, bytes passed, bytes written; and the entries
 pub record Sample : Type 0 where

@@ -1,4 +1,4 @@
--- The seconds never matter (docs/REGISTER.md, 13.2): which sequences of calls are the same but for the seconds in their messages, and what is the same in their answers and
+-- The seconds never matter (docs/REGISTER.md, 13.2): which sequences of calls are the same but for the seconds in their messages, and what is the same in their replies and
 -- entries. Messages are compared within their whole length, so that this is said of the calls of a run too.
 -- Assumes nothing.
 use Prim.Native.Nat.{ℕ, _≤_}
@@ -7,10 +7,14 @@ use mathlib.Core.Logic.{_↔_}
 use mathlib.Core.List.{List, [], _∷_, _++_}
 use lib.ListN.{length, take, drop}
 use lib.Seq.{slice}
+use Rattle.rule.specs.Rule.{Rule}
+use Rattle.events.specs.declared.Event.{Event}
+use Rattle.events.specs.declared.State.{State}
 use Rattle.filing.specs.declared.Entry.{Entry}
 use Rattle.entry.specs.Bytes.{bytesOfEntry}
+use Rattle.register.specs.Register.{freshBy}
 use Rattle.register.specs.Call.{writtenOf}
-use Rattle.register.specs.Sequence.{Input, Exchange}
+use Rattle.register.specs.Sequence.{Input, Exchange, exchanges}
 use Rattle.register.specs.Whole.{Whole}
 
 -- two strings that differ at most in the four bytes of the second, behind kind, transaction and account
@@ -41,12 +45,18 @@ pub data SameEntries : List ℕ → List ℕ → Type 0 where
   entry : (account : ℕ) (e e′ : Entry) {rest rest′ : List ℕ} → OtherSecond (bytesOfEntry account e) (bytesOfEntry account e′) → SameEntries rest rest′
       → SameEntries (bytesOfEntry account e ++ rest) (bytesOfEntry account e′ ++ rest′)
 
--- the same answer, the same entries but for their seconds, and the rest of the buffers equal
+-- the same reply, the same entries but for their seconds, and the rest of the buffers equal
 pub record SameExchange (x y : Exchange) : Type 0 where
-  pub answers : x .reply ≡ y .reply
+  pub replies : x .reply ≡ y .reply
   pub entries : SameEntries (take (writtenOf (x .reply)) (x .buffer)) (take (writtenOf (y .reply)) (y .buffer))
   pub rest : drop (writtenOf (x .reply)) (x .buffer) ≡ drop (writtenOf (y .reply)) (y .buffer)
 
 pub data SameExchanges : List Exchange → List Exchange → Type 0 where
   none-seen : SameExchanges [] []
   one-seen : {x y : Exchange} {xs ys : List Exchange} → SameExchange x y → SameExchanges xs ys → SameExchanges (x ∷ xs) (y ∷ ys)
+
+-- of two sequences to fresh registers that are the same but for their seconds, the replies are the same, and the entries but for their seconds
+abbrev pub SecondsNeverMatter : Rule State Event ℕ → Type 0
+SecondsNeverMatter R =
+    (inputs inputs′ : List Input) → OtherSeconds inputs inputs′
+    → SameExchanges (exchanges R (freshBy R) inputs) (exchanges R (freshBy R) inputs′)

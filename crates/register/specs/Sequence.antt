@@ -10,12 +10,16 @@ use lib.ListN.{length, take, drop}
 use Rattle.rule.specs.Rule as rule
 use Rattle.rule.specs.Call as rule-call
 use Rattle.rule.specs.History as rule-history
+use Rattle.rule.specs.Demand as rule-demand
 use Rattle.events.specs.declared.Event.{Event}
+use Rattle.events.specs.declared.State.{State}
 use Rattle.filing.specs.declared.Told.{Told}
 use Rattle.filing.specs.declared.Told.the-variants.{Voted, Noted, Applied, Dropped}
 use Rattle.filing.specs.declared.Entry.{Entry}
 use Rattle.filing.specs.declared.Filed.{Filed}
 use Rattle.filing.specs.Entries.{RuleEntry, weighingOf, entryOf}
+use Rattle.account.specs.Places.{listsOf}
+use Rattle.layout.specs.Number.{AreBytes}
 use Rattle.message.specs.declared.Message.{Message}
 use Rattle.message.specs.declared.Reading.{Reading}
 use Rattle.message.specs.declared.Reading.the-variants as Reading′
@@ -28,33 +32,38 @@ use Rattle.entry.specs.Answers as entry
 use Rattle.register.specs.declared.Register.{Register}
 use Rattle.register.specs.declared.Reply.{Reply}
 use Rattle.register.specs.declared.Reply.the-variants.{Refused, Taken}
-use Rattle.register.specs.Register.{ruleMessage}
-use Rattle.register.specs.Call.{refusalOf, writtenOf}
-use Rattle.register.specs.First.{callOf}
-use Rattle.register.specs.Refusals.{accountIn}
+use Rattle.register.specs.Register.{ruleMessage, freshBy}
+use Rattle.register.specs.Call.{refusalOf, writtenOf, calledBy}
+use Rattle.register.specs.Refusals.{accountIn, standingAt}
 
 -- what is handed to a call: the message bytes and the entry buffer
 pub record Input : Type 0 where
   pub message : List ℕ
   pub buffer : List ℕ
 
--- a call as it can be seen: the message bytes, the answer, and the buffer that it left
+-- a call as it can be seen: the message bytes, the reply, and the buffer that it left
 pub record Exchange : Type 0 where
   pub message : List ℕ
   pub reply : Reply
   pub buffer : List ℕ
 
--- the register after a sequence of calls, refused ones included
-abbrev pub after : Register → List Input → Register
-after r [] = r
-after r (x ∷ xs) = after (callOf r (x .message) (x .buffer) .register) xs
+-- every message of these is a string of bytes
+abbrev pub ByteStrings : List Input → Type 0
+ByteStrings [] = Unit {0}
+ByteStrings (x ∷ xs) = AreBytes (x .message) × ByteStrings xs
 
--- and what is seen of them
-abbrev pub exchanges : Register → List Input → List Exchange
-exchanges r [] = []
-exchanges r (x ∷ xs) =
-    record { message = x .message; reply = callOf r (x .message) (x .buffer) .reply; buffer = callOf r (x .message) (x .buffer) .buffer }
-    ∷ exchanges (callOf r (x .message) (x .buffer) .register) xs
+module _ (R : rule.Rule State Event ℕ) where
+  -- the register after a sequence of calls, refused ones included
+  abbrev pub after : Register → List Input → Register
+  after r [] = r
+  after r (x ∷ xs) = after (calledBy R r (x .message) (x .buffer) .register) xs
+
+  -- and what is seen of them
+  abbrev pub exchanges : Register → List Input → List Exchange
+  exchanges r [] = []
+  exchanges r (x ∷ xs) =
+      record { message = x .message; reply = calledBy R r (x .message) (x .buffer) .reply; buffer = calledBy R r (x .message) (x .buffer) .buffer }
+      ∷ exchanges (calledBy R r (x .message) (x .buffer) .register) xs
 
 -- an entry as the rule has it
 abbrev pub toldAs : ℕ → Filed → Told → RuleEntry
@@ -87,9 +96,9 @@ answerIn (Taken consumed written) buffer = rule-call.taken (entriesIn (take writ
 
 -- an exchange as an account sees it: one whose message names it, and no other
 abbrev pub seenOf : ℕ → Reply → (buffer : List ℕ) → Reading → List (rule-history.Seen Filed Event ℕ)
-seenOf i answer buffer (Reading′.Refused n) = []
-seenOf i answer buffer (Reading′.Message m consumed) =
-    cond (eqb (headingOf m .account) i) (record { message = ruleMessage m; answer = answerIn answer buffer } ∷ []) []
+seenOf i reply buffer (Reading′.Refused n) = []
+seenOf i reply buffer (Reading′.Message m consumed) =
+    cond (eqb (headingOf m .account) i) (record { message = ruleMessage m; answer = answerIn reply buffer } ∷ []) []
 
 -- all exchanges as an account sees them
 abbrev pub seenBy : ℕ → List Exchange → List (rule-history.Seen Filed Event ℕ)
@@ -108,14 +117,19 @@ abbrev pub EachOnlyEntries : List Exchange → Type 0
 EachOnlyEntries [] = Unit {0}
 EachOnlyEntries (x ∷ xs) = OnlyEntries x × EachOnlyEntries xs
 
--- a sequence is its calls, one after the other, each on the register that the one before left
-pub record OneMoreCall (r : Register) (x : Input) (xs : List Input) : Type 0 where
-  pub none-after : after r [] ≡ r
-  pub last-after : after r (xs ++ (x ∷ [])) ≡ callOf (after r xs) (x .message) (x .buffer) .register
-  pub none-seen : exchanges r [] ≡ []
-  pub last-seen :
-      let called = callOf (after r xs) (x .message) (x .buffer) in
-      exchanges r (xs ++ (x ∷ [])) ≡ exchanges r xs ++ (record { message = x .message; reply = called .reply; buffer = called .buffer } ∷ [])
+module _ (R : rule.Rule State Event ℕ) where
+  -- a sequence is its calls, one after the other, each on the register that the one before left
+  pub record OneMoreCall (r : Register) (x : Input) (xs : List Input) : Type 0 where
+    pub none-after : after R r [] ≡ r
+    pub last-after : after R r (xs ++ (x ∷ [])) ≡ calledBy R (after R r xs) (x .message) (x .buffer) .register
+    pub none-seen : exchanges R r [] ≡ []
+    pub last-seen :
+        let called = calledBy R (after R r xs) (x .message) (x .buffer) in
+        exchanges R r (xs ++ (x ∷ [])) ≡ exchanges R r xs ++ (record { message = x .message; reply = called .reply; buffer = called .buffer } ∷ [])
+
+  -- what demand 3 says of the account of a number after these calls of a fresh register, by what it has seen of them
+  abbrev pub SerialPast : List Input → (account : ℕ) → Type 0
+  SerialPast inputs i = rule-demand.Demand3 R (listsOf (standingAt (after R (freshBy R) inputs) i)) (seenBy i (exchanges R (freshBy R) inputs))
 
 -- an account sees the exchanges whose messages name it, in their order, and no other
 pub record Sight (i : ℕ) (xs : List Exchange) (x : Exchange) : Type 0 where

@@ -2,7 +2,7 @@
 use crate::runs;
 ghost use mathlib.Core.Path.{_≡_};
 ghost use lib.ListN.{set};
-ghost use Rattle.register.specs.Run.{exportOf};
+ghost use Rattle.register.specs.First.{exportOf};
 
 // The run, with its four numbers in the first places of `counts`, as many as there are; the answer is the length of the entries written.
 #[no_mangle]

@@ -4,7 +4,7 @@ use message::Message;
 use message::Reading;
 ghost use mathlib.Core.Path.{_≡_};
 ghost use Rattle.message.specs.Bytes.{headingOf};
-ghost use Rattle.register.specs.Numbers.{readingNumber, stepNumber};
+ghost use Rattle.register.specs.Helpers.{readingNumber, stepNumber};
 
 // The number of the account that a message names.
 pub(crate) fn account_of(message: Message) -> u16

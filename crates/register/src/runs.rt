@@ -9,7 +9,9 @@ use message::Message;
 use message::Reading;
 ghost use mathlib.Core.Path.{_≡_};
 ghost use Rattle.register.specs.declared.Reply.the-variants.{Refused};
-ghost use Rattle.register.specs.Run.{runOf, roomed, filedOf, Fitting, replyNumber, passedOf, one, added, Countable};
+ghost use Rattle.register.specs.First.{runOf};
+ghost use Rattle.register.specs.Run.{replyNumber, passedOf, one, added};
+ghost use Rattle.register.specs.Helpers.{roomed, filedOf, Fitting, Countable};
 
 // What a run comes to: messages met, messages refused, bytes of messages passed, bytes of entries written.
 pub struct Ran {
@@ -60,7 +62,9 @@ pub fn run(messages: &[u8], entries: &mut [u8]) -> Ran
                 let filed = heading.filed;
                 let account = accounts[at];
                 let stepped = account.request(heading.transaction, filed, event);
-                let reply = file(stepped.answer, stepped.entries, heading.account, whole, &mut entries[to..]);
+                let answer = stepped.answer;
+                let made = stepped.entries;
+                let reply = file(answer, made, heading.account, whole, &mut entries[to..]);
                 let passed = passed_by(reply, whole);
                 if passed.refused == 0 {
                     let next = stepped.account;
@@ -73,7 +77,9 @@ pub fn run(messages: &[u8], entries: &mut [u8]) -> Ran
                 let filed = heading.filed;
                 let account = accounts[at];
                 let stepped = account.commit(heading.transaction, filed);
-                let reply = file(stepped.answer, stepped.entries, heading.account, whole, &mut entries[to..]);
+                let answer = stepped.answer;
+                let made = stepped.entries;
+                let reply = file(answer, made, heading.account, whole, &mut entries[to..]);
                 let passed = passed_by(reply, whole);
                 if passed.refused == 0 {
                     let next = stepped.account;
@@ -86,7 +92,9 @@ pub fn run(messages: &[u8], entries: &mut [u8]) -> Ran
                 let filed = heading.filed;
                 let account = accounts[at];
                 let stepped = account.abort(heading.transaction, filed);
-                let reply = file(stepped.answer, stepped.entries, heading.account, whole, &mut entries[to..]);
+                let answer = stepped.answer;
+                let made = stepped.entries;
+                let reply = file(answer, made, heading.account, whole, &mut entries[to..]);
                 let passed = passed_by(reply, whole);
                 if passed.refused == 0 {
                     let next = stepped.account;

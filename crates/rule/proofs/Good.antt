@@ -45,7 +45,7 @@ module _ {G S E B : Type 0} (R : Rule S E B) where
   Done lines r = Rest (r .account) (notes lines (r .entries)) × AllOwned R lines (r .entries)
 
   -- What a verdict says: an acceptance, that a place is free and the guard holds in every outcome.
-  decide-accept : (e : E) (s : S) (progress : List (Slot G E))
+  pub decide-accept : (e : E) (s : S) (progress : List (Slot G E))
       → decide R e s progress .verdict ≡ accept → (length progress < R .progressLimit) × (every (R .guard e) (outcomes R progress s) ≡ true)
   unfolding decide weigh
   decide-accept e s progress h = full (leb (R .progressLimit) (length progress)) refl h

@@ -1,4 +1,5 @@
 pub mod Lists
+pub mod Tests
 pub mod Outcomes
 pub mod Ways
 pub mod Exact

@@ -1,5 +1,6 @@
 pub mod Lists
 pub mod Rule
+pub mod Tests
 pub mod Outcome
 pub mod Weigh
 pub mod Step

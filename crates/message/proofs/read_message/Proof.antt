@@ -1,10 +1,7 @@
 -- `message::read_message` meets its contract: each way out is a law of the reader's definition.
 -- Assumes nothing.
-use mathlib.Core.Path.{_≡_, sym}
-use Rattle.layout.specs.Fields.{rowOf, wholeOf}
-use Rattle.layout.proofs.Shapes.{shape-whole}
-use Rattle.message.specs.Bytes.{messages}
-use Rattle.message.proofs.Reader.{read-empty, read-unknown, read-short, read-last, read-row}
+use mathlib.Core.Path.{sym}
+use Rattle.message.proofs.Reader.{read-empty, code-unknown, code-short, code-elsewhere, code-taken}
 use borrow.Author.Needs.{needs}
 use Rattle.message.proofs.read_message.Statement.{statement}
 use Rattle.message.proofs.read_message.Tie as tie
@@ -24,22 +21,15 @@ returns-2 c =
     let at-number1 = at-shape-of .before in
     let at-if1 = at-number1 .before in
     let bytes = at-if1 .before .before .args .bytes .now in
-    let kind = at-number1 .number1 .result in
-    let shape = at-shape-of .shape-of .result in
-    let whole : shape .whole ≡ wholeOf (rowOf messages kind) = rw (at-shape-of .shape-of .ensures) (shape-whole (rowOf messages kind)) in
-    sym (read-unknown bytes kind (shape .whole) (at-if1 .if1 .left) (at-number1 .number1 .ensures) whole (c .if2 .taken))
+    sym (code-unknown bytes (at-if1 .if1 .left) (at-number1 .number1 .ensures) (at-shape-of .shape-of .ensures) (c .if2 .taken))
 
 returns-3 : tie.Need-returns-3
 returns-3 c =
-    let at-if2 = c .before .before in
-    let at-shape-of = at-if2 .before .before in
+    let at-shape-of = c .before .before .before .before in
     let at-number1 = at-shape-of .before in
     let at-if1 = at-number1 .before in
     let bytes = at-if1 .before .before .args .bytes .now in
-    let kind = at-number1 .number1 .result in
-    let shape = at-shape-of .shape-of .result in
-    let whole : shape .whole ≡ wholeOf (rowOf messages kind) = rw (at-shape-of .shape-of .ensures) (shape-whole (rowOf messages kind)) in
-    sym (read-short bytes kind (shape .whole) (at-if1 .if1 .left) (at-number1 .number1 .ensures) whole (at-if2 .if2 .left) (c .if3 .taken))
+    sym (code-short bytes (at-if1 .if1 .left) (at-number1 .number1 .ensures) (at-shape-of .shape-of .ensures) (c .if3 .taken))
 
 read-numbers-requires : tie.Need-read-numbers-requires
 read-numbers-requires c κs = search needs
@@ -59,12 +49,9 @@ returns-4 c =
     let at-number1 = at-shape-of .before in
     let at-if1 = at-number1 .before in
     let bytes = at-if1 .before .before .args .bytes .now in
-    let kind = at-number1 .number1 .result in
-    let shape = at-shape-of .shape-of .result in
-    let whole : shape .whole ≡ wholeOf (rowOf messages kind) = rw (at-shape-of .shape-of .ensures) (shape-whole (rowOf messages kind)) in
-    let numbers = rw (at-shape-of .shape-of .ensures) at (at-read-numbers .read-numbers .ensures) in
-    let by-row = read-last bytes kind (shape .whole) (at-if1 .if1 .left) (at-number1 .number1 .ensures) whole (at-if2 .if2 .left) in
-    sym (by-row (at-read-numbers .read-numbers .result) numbers (at-if3 .if3 .left) (c .if4 .taken))
+    sym
+    (code-elsewhere bytes (at-if1 .if1 .left) (at-number1 .number1 .ensures) (at-shape-of .shape-of .ensures) (at-if2 .if2 .left) (at-if3 .if3 .left)
+    (at-read-numbers .read-numbers .ensures) (c .if4 .taken))
 
 array-read-message-of : tie.Need-array-read-message-of
 array-read-message-of c = search needs
@@ -75,8 +62,8 @@ array-read-t13 c = search needs
 cast-t18 : tie.Need-cast-t18
 cast-t18 c = search needs
 
-array-read-t21 : tie.Need-array-read-t21
-array-read-t21 c = search needs
+filed-from-requires : tie.Need-filed-from-requires
+filed-from-requires c κs = search needs
 
 array-read-message-of-2 : tie.Need-array-read-message-of-2
 array-read-message-of-2 c = search needs
@@ -86,7 +73,8 @@ message-of-requires c κs = search needs
 
 returns-5 : tie.Need-returns-5
 returns-5 c =
-    let at-if4 = c .before in
+    let at-filed-from = c .before in
+    let at-if4 = at-filed-from .before in
     let at-read-numbers = at-if4 .before in
     let at-if3 = at-read-numbers .before .before in
     let at-if2 = at-if3 .before .before in
@@ -94,12 +82,10 @@ returns-5 c =
     let at-number1 = at-shape-of .before in
     let at-if1 = at-number1 .before in
     let bytes = at-if1 .before .before .args .bytes .now in
-    let kind = at-number1 .number1 .result in
-    let shape = at-shape-of .shape-of .result in
-    let whole : shape .whole ≡ wholeOf (rowOf messages kind) = rw (at-shape-of .shape-of .ensures) (shape-whole (rowOf messages kind)) in
-    let numbers = rw (at-shape-of .shape-of .ensures) at (at-read-numbers .read-numbers .ensures) in
-    let by-row = read-row bytes kind (shape .whole) (at-if1 .if1 .left) (at-number1 .number1 .ensures) whole (at-if2 .if2 .left) in
-    rw (c .message-of .ensures) (sym (by-row (at-read-numbers .read-numbers .result) numbers (at-if3 .if3 .left) (at-if4 .if4 .left)))
+    let read =
+    code-taken bytes (at-if1 .if1 .left) (at-number1 .number1 .ensures) (at-shape-of .shape-of .ensures) (at-if2 .if2 .left) (at-if3 .if3 .left)
+    (at-read-numbers .read-numbers .ensures) (at-if4 .if4 .left) in
+    rw (c .message-of .ensures, at-filed-from .filed-from .ensures) (sym read)
 
 pub read-message-spec : {M : Type 1} → statement M
 read-message-spec =
@@ -117,7 +103,7 @@ read-message-spec =
     array-read-message-of
     array-read-t13
     cast-t18
-    array-read-t21
+    filed-from-requires
     array-read-message-of-2
     message-of-requires
     returns-5)

@@ -1,7 +1,7 @@
 -- `message::write_message` meets its contract: each way out is a law of the writer's definition.
 -- Assumes nothing.
 use mathlib.Core.Path.{_≡_}
-use Rattle.layout.specs.Fields.{rowOf}
+use Rattle.layout.specs.Fields.{rowOfKind}
 use Rattle.layout.specs.Shapes.{shapeOf}
 use Rattle.layout.proofs.Shapes.{shape-whole}
 use Rattle.message.specs.Bytes.{messages, kindOf, lengthOfMessage}
@@ -34,8 +34,8 @@ returns-2 c =
     let at-if1 = at-kind-of .before in
     let at-heading-of = at-if1 .before .before in
     let a = at-heading-of .before .before .args in
-    let row : at-shape-of .shape-of .result ≡ shapeOf (rowOf messages (kindOf (a .message))) = rw (at-kind-of .kind-of .ensures) at (at-shape-of .shape-of .ensures) in
-    let whole : at-shape-of .shape-of .result .whole ≡ lengthOfMessage (a .message) = rw row (shape-whole (rowOf messages (kindOf (a .message)))) in
+    let row : at-shape-of .shape-of .result ≡ shapeOf (rowOfKind messages (kindOf (a .message))) = rw (at-kind-of .kind-of .ensures) at (at-shape-of .shape-of .ensures) in
+    let whole : at-shape-of .shape-of .result .whole ≡ lengthOfMessage (a .message) = rw row (shape-whole (rowOfKind messages (kindOf (a .message)))) in
     let account = at-heading-of .heading-of .ensures in
     let e = write-short (a .message) (a .buffer .now) (rw account at (at-if1 .if1 .left)) (rw whole at (c .if2 .taken)) in
     (rw e, rw e)
@@ -60,8 +60,8 @@ returns-3 c =
     let at-if1 = at-kind-of .before in
     let at-heading-of = at-if1 .before .before in
     let a = at-heading-of .before .before .args in
-    let row : at-shape-of .shape-of .result ≡ shapeOf (rowOf messages (kindOf (a .message))) = rw (at-kind-of .kind-of .ensures) at (at-shape-of .shape-of .ensures) in
-    let whole : at-shape-of .shape-of .result .whole ≡ lengthOfMessage (a .message) = rw row (shape-whole (rowOf messages (kindOf (a .message)))) in
+    let row : at-shape-of .shape-of .result ≡ shapeOf (rowOfKind messages (kindOf (a .message))) = rw (at-kind-of .kind-of .ensures) at (at-shape-of .shape-of .ensures) in
+    let whole : at-shape-of .shape-of .result .whole ≡ lengthOfMessage (a .message) = rw row (shape-whole (rowOfKind messages (kindOf (a .message)))) in
     let account = at-heading-of .heading-of .ensures in
     let stored = rw (at-numbers-of .numbers-of .ensures, row) at (at-put-numbers .put-numbers .ensures) in
     rw whole

@@ -1,34 +1,34 @@
 -- `entry::kinds::shape_of` meets its contract: the arm that was taken says which row it is.
 -- Assumes nothing.
 use native.Mathlib.Omega.{arith}
-use Rattle.layout.specs.Fields.{rowOf}
+use Rattle.layout.specs.Fields.{rowOfKind}
 use Rattle.layout.proofs.Tables.{absent}
 use Rattle.entry.specs.Bytes.{entryRows}
 use Rattle.entry.proofs.kinds.shape_of.Statement.{statement}
 use Rattle.entry.proofs.kinds.shape_of.Tie as tie
 
 returns : tie.Need-returns
-unfolding rowOf entryRows
+unfolding rowOfKind entryRows
 returns c = rw (c .match .keys1)
 
 returns-2 : tie.Need-returns-2
-unfolding rowOf entryRows
+unfolding rowOfKind entryRows
 returns-2 c = rw (c .match .keys2)
 
 returns-3 : tie.Need-returns-3
-unfolding rowOf entryRows
+unfolding rowOfKind entryRows
 returns-3 c = rw (c .match .keys3)
 
 returns-4 : tie.Need-returns-4
-unfolding rowOf entryRows
+unfolding rowOfKind entryRows
 returns-4 c = rw (c .match .keys4)
 
 returns-5 : tie.Need-returns-5
-unfolding rowOf entryRows
+unfolding rowOfKind entryRows
 returns-5 c = rw (c .match .keys5)
 
 returns-6 : tie.Need-returns-6
-unfolding rowOf entryRows
+unfolding rowOfKind entryRows
 returns-6 c = rw (c .match .keys6)
 
 returns-7 : tie.Need-returns-7

@@ -10,6 +10,9 @@ enum-known-told c = search needs
 with-event-requires : tie.Need-with-event-requires
 with-event-requires c κs = search needs
 
+enum-told : tie.Need-enum-told
+enum-told c = search needs
+
 enum-known-told-2 : tie.Need-enum-known-told-2
 enum-known-told-2 c = search needs
 
@@ -22,38 +25,17 @@ enum-known-told-3 c = search needs
 with-event-requires-3 : tie.Need-with-event-requires-3
 with-event-requires-3 c κs = search needs
 
-enum-told : tie.Need-enum-told
-enum-told c = search needs
-
-enum-known-told-4 : tie.Need-enum-known-told-4
-enum-known-told-4 c = search needs
-
-with-event-requires-4 : tie.Need-with-event-requires-4
-with-event-requires-4 c κs = search needs
-
-enum-known-told-5 : tie.Need-enum-known-told-5
-enum-known-told-5 c = search needs
-
-with-event-requires-5 : tie.Need-with-event-requires-5
-with-event-requires-5 c κs = search needs
-
 returns : tie.Need-returns
 returns c = rw (c .before .before .told .given .1) (c .with-event .ensures)
 
 returns-2 : tie.Need-returns-2
-returns-2 c = rw (c .before .before .told2 .given .1) (c .with-event2 .ensures)
+returns-2 c = rw (c .enum-told .given .1)
 
 returns-3 : tie.Need-returns-3
-returns-3 c = rw (c .before .before .told3 .given .1) (c .with-event3 .ensures)
+returns-3 c = rw (c .before .before .told2 .given .1) (c .with-event2 .ensures)
 
 returns-4 : tie.Need-returns-4
-returns-4 c = rw (c .enum-told .given .1)
-
-returns-5 : tie.Need-returns-5
-returns-5 c = rw (c .before .before .told4 .given .1) (c .with-event4 .ensures)
-
-returns-6 : tie.Need-returns-6
-returns-6 c = rw (c .before .before .told5 .given .1) (c .with-event5 .ensures)
+returns-4 c = rw (c .before .before .told3 .given .1) (c .with-event3 .ensures)
 
 pub then-of-spec : {M : Type 1} → statement M
 then-of-spec =
@@ -61,18 +43,12 @@ then-of-spec =
     (tie.spec
     enum-known-told
     with-event-requires
+    enum-told
     enum-known-told-2
     with-event-requires-2
     enum-known-told-3
     with-event-requires-3
-    enum-told
-    enum-known-told-4
-    with-event-requires-4
-    enum-known-told-5
-    with-event-requires-5
     returns
     returns-2
     returns-3
-    returns-4
-    returns-5
-    returns-6)
+    returns-4)

@@ -7,8 +7,8 @@ use Rattle.entry.proofs.reader.entry_of.Tie as tie
 array-read-t6 : tie.Need-array-read-t6
 array-read-t6 c = search needs
 
-array-read-t9 : tie.Need-array-read-t9
-array-read-t9 c = search needs
+filed-from-requires : tie.Need-filed-from-requires
+filed-from-requires c κs = search needs
 
 array-read-event-of : tie.Need-array-read-event-of
 array-read-event-of c = search needs
@@ -26,14 +26,16 @@ told-of-requires : tie.Need-told-of-requires
 told-of-requires c κs = search needs
 
 returns : tie.Need-returns
-returns c = rw (c .told-of .ensures, c .before .event-of .ensures)
+returns c =
+    let at-event-of = c .before in
+    rw (c .told-of .ensures, at-event-of .event-of .ensures, at-event-of .before .filed-from .ensures)
 
 pub entry-of-spec : {M : Type 1} → statement M
 entry-of-spec =
     tie.close
     (tie.spec
     array-read-t6
-    array-read-t9
+    filed-from-requires
     array-read-event-of
     array-read-event-of-2
     event-of-requires

@@ -1,7 +1,7 @@
 -- `entry::writer::put_entry` meets its contract: the numbers of the entry, stored by the row of its kind, are its bytes.
 -- Assumes nothing.
 use mathlib.Core.Path.{_≡_}
-use Rattle.layout.specs.Fields.{rowOf}
+use Rattle.layout.specs.Fields.{rowOfKind}
 use Rattle.layout.specs.Shapes.{shapeOf}
 use Rattle.layout.proofs.Shapes.{shape-whole}
 use Rattle.entry.specs.Bytes.{entryRows, kindOf, lengthOfTold}
@@ -33,7 +33,7 @@ returns c =
     let at-shape-of = at-numbers-of .before .before .before in
     let at-told-kind = at-shape-of .before in
     let a = at-told-kind .before .before .args in
-    let found = rowOf entryRows (kindOf (a .entry .told)) in
+    let found = rowOfKind entryRows (kindOf (a .entry .told)) in
     let row : at-shape-of .shape-of .result ≡ shapeOf found = rw (at-told-kind .told-kind .ensures) at (at-shape-of .shape-of .ensures) in
     let whole : at-shape-of .shape-of .result .whole ≡ lengthOfTold (a .entry .told) = rw row (shape-whole found) in
     let stored = rw (at-numbers-of .numbers-of .ensures, row, row-bytes (a .account) (a .entry)) at (at-put-numbers .put-numbers .ensures) in

@@ -1,7 +1,7 @@
 -- `entry::writer::told_length` meets its contract: the length is that of the row.
 -- Assumes nothing.
 use mathlib.Core.Path.{_≡_}
-use Rattle.layout.specs.Fields.{rowOf}
+use Rattle.layout.specs.Fields.{rowOfKind}
 use Rattle.layout.proofs.Shapes.{shape-whole}
 use Rattle.entry.specs.Bytes.{entryRows, kindOf, lengthOfTold}
 use Rattle.entry.proofs.Stored.{short-told}
@@ -20,7 +20,7 @@ unfolding lengthOfTold
 returns c =
     let at-told-kind = c .before in
     let told = at-told-kind .before .args .entry .told in
-    let whole : c .shape-of .result .whole ≡ lengthOfTold told = rw (c .shape-of .ensures, at-told-kind .told-kind .ensures) (shape-whole (rowOf entryRows (kindOf told))) in
+    let whole : c .shape-of .result .whole ≡ lengthOfTold told = rw (c .shape-of .ensures, at-told-kind .told-kind .ensures) (shape-whole (rowOfKind entryRows (kindOf told))) in
     (whole, rw whole (short-told told))
 
 pub told-length-spec : {M : Type 1} → statement M

@@ -7,7 +7,7 @@ use mathlib.Core.Path.{_≡_, refl, ap₂}
 use mathlib.Core.List.{List}
 use borrow.Author.Needs.{needs}
 use lib.ListN.{length, take, length-map}
-use Rattle.account.specs.declared.Entry.{Entry}
+use Rattle.filing.specs.declared.Entry.{Entry}
 use Rattle.entry.specs.Bytes.{wholesOf}
 use Rattle.entry.proofs.Stored.{wholes-more, all-places}
 use Rattle.entry.proofs.writer.whole_length.Statement.{statement}

@@ -9,7 +9,7 @@ use borrow.Author.Needs.{needs}
 use borrow.Author.Tests.{leb-true, leb-false, not-true, not-false}
 use lib.ListN.{length, take, length-map}
 use lib.Seq.{sets}
-use Rattle.account.specs.declared.Entry.{Entry}
+use Rattle.filing.specs.declared.Entry.{Entry}
 use Rattle.entry.specs.Bytes.{bytesOfEntries, wholesOf, listOf}
 use Rattle.entry.proofs.Stored.{wholes-more, stored-more, all-places}
 use Rattle.entry.proofs.Writing.{write-small, write-short, write-stored}

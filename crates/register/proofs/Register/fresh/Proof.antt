@@ -1,14 +1,12 @@
 use borrow.Author.Needs.{needs}
 use Rattle.account.specs.Places.{accountOf}
-use Rattle.register.specs.Register.{freshRegister}
+use Rattle.register.specs.Register.{freshBy}
 use Rattle.register.proofs.Register.fresh.Statement.{statement}
 use Rattle.register.proofs.Register.fresh.Tie as tie
-use Rattle.register.proofs.Register.fresh.Reads as reads
-use Rattle.register.proofs.Register.fresh.Lts as lts
 
 -- src/lib.rt:32:5
 returns : tie.Need-returns
-unfolding freshRegister accountOf
+unfolding freshBy accountOf
 returns c = search needs
 
 pub fresh-spec : {M : Type 1} → statement M

@@ -1,16 +1,13 @@
 use borrow.Author.Tests.{lt-ltb, le-ltb}
 use Rattle.layout.specs.Fields.{lastAccount}
-use Rattle.register.specs.Register.{outlookIn}
+use Rattle.register.specs.Register.{askedBy}
 use borrow.Author.Needs.{needs}
 use Rattle.register.proofs.Register.outlook.Statement.{statement}
 use Rattle.register.proofs.Register.outlook.Tie as tie
-use Rattle.register.proofs.Register.outlook.Reads as reads
-use Rattle.register.proofs.Register.outlook.Lts as lts
-use Rattle.account.proofs.Account.outlook.Reads as outlook-reads
 
 -- src/lib.rt:77:13
 returns : tie.Need-returns
-unfolding outlookIn
+unfolding askedBy
 returns c = rw (lt-ltb lastAccount (c .before .args .account) (c .if1 .taken))
 
 -- src/lib.rt:81:21
@@ -27,7 +24,7 @@ outlook-requires c κs = search needs
 
 -- src/lib.rt:73:5
 returns-2 : tie.Need-returns-2
-unfolding outlookIn
+unfolding askedBy
 returns-2 c = rw (le-ltb lastAccount (c .before .before .before .before .args .account) (c .before .before .before .if1 .left)) (c .outlook .ensures)
 
 pub outlook-spec : {M : Type 1} → statement M

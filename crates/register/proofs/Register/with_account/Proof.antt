@@ -1,9 +1,6 @@
 use borrow.Author.Needs.{needs}
 use Rattle.register.proofs.Register.with_account.Statement.{statement}
 use Rattle.register.proofs.Register.with_account.Tie as tie
-use Rattle.register.proofs.Register.with_account.Reads as reads
-use Rattle.register.proofs.Register.with_account.Lts as lts
-use Rattle.register.proofs.place.placed.Reads as placed-reads
 
 -- src/lib.rt:102:23
 placed-requires : tie.Need-placed-requires

@@ -27,8 +27,12 @@ same-length-2 c = search needs
 
 returns : tie.Need-returns
 returns c =
-    let ran = c .before .before .before .before .before .before .before .before .before .before .before .before .before .before .before .before .before .before .run .ensures in
-    (rw (ran .0), ran .1, rw (c .before .before .put4 .ensures, c .before .before .before .before .before .before .put3 .ensures, c .before .before .before .before .before .before .before .before .before .before .put2 .ensures, c .before .before .before .before .before .before .before .before .before .before .before .before .before .before .put .ensures, ran .0))
+    let fourth = c .before .before in
+    let third = fourth .before .before .before .before in
+    let two = third .before .before .before .before in
+    let one = two .before .before .before .before in
+    let ran = one .before .before .before .before .run .ensures in
+    (rw (ran .0), ran .1, rw (fourth .put4 .ensures, third .put3 .ensures, two .put2 .ensures, one .put .ensures, ran .0))
 
 pub nacozteya-run-spec : {M : Type 1} → statement M
 nacozteya-run-spec =

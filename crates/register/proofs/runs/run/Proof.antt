@@ -1,24 +1,29 @@
 -- The loop's invariant: the run is under way, at the accounts, the counts and the entry buffer of the moment. The measure is what is left of the messages.
--- Every turn is one of `proofs/Underway.antt`; that the named account alone is changed is the law of `proofs/InPlace.antt`.
+-- Every turn is one of `proofs/Turned.antt`: a refusal of the reader or of the room, or a message to the account that it names, of each kind alike.
 -- Assumes nothing.
-use Prim.Native.Nat.{ℕ, _-_, _<_}
-use mathlib.Core.Path.{refl, sym, _∙_, ap}
+use Prim.Native.Nat.{ℕ, _-_, _≤_, _<_}
+use mathlib.Core.Path.{_≡_, sym, _∙_, ap}
+use mathlib.Core.Logic.{inl, inr, ⊎-elim}
+use mathlib.Core.Bool.{false}
 use mathlib.Core.List.{List}
 use native.Mathlib.Omega.{arith}
 use borrow.Author.Needs.{needs}
-use lib.ListN.{length, set}
 use borrow.Rule.Slice.PartMut.{putMid}
+use lib.ListN.{length}
+use Rattle.account.specs.declared.Account.{Account}
+use Rattle.message.specs.declared.Message.{Message}
+use Rattle.message.specs.declared.Message.the-variants.{Request, Commit, Abort}
+use Rattle.message.specs.declared.Reading.the-variants as Reading′
 use Rattle.register.specs.declared.Register.{Register}
-use Rattle.register.specs.declared.runs.Ran.{Ran}
-use Rattle.register.specs.declared.runs.Passed.{Passed}
 use Rattle.register.specs.Run.{Run}
-use Rattle.register.proofs.Underway.{Underway, starts, ends, Turn, turned, size-kept, countable, stops-there, goes-on, less-left}
-use Rattle.register.proofs.InPlace.{place-low, call-gives}
+use Rattle.register.proofs.Suits.{first-suits}
+use Rattle.register.proofs.Underway.{Underway, starts, ends, Turn, countable, stops-there, goes-on, less-left}
+use Rattle.register.proofs.Turned.{Looked, turn-refused, named-low, turn-fits, turn-message, turn-on}
 use Rattle.register.proofs.runs.run.Statement.{statement}
 use Rattle.register.proofs.runs.run.Tie as tie
 
 abbrev Inv-loop : tie.InvT-loop
-Inv-loop messages entries₀ accounts₀ ran₀ entries accounts ran = Underway messages entries₀ (record { accounts = accounts }) ran entries
+Inv-loop messages entries₀ accounts₀ ran₀ entries accounts ran = Underway _ first-suits messages entries₀ (record { accounts = accounts }) ran entries
 
 abbrev μ-loop : tie.MeasureT-loop
 μ-loop messages entries₀ accounts₀ ran₀ entries accounts ran = length messages - ran .consumed
@@ -29,7 +34,7 @@ fresh-requires c κs = search needs
 loop-holds : tie.Need-loop-holds Inv-loop μ-loop
 loop-holds c =
     let a = c .before .before .before .before .args in
-    rw (c .before .fresh .ensures) (starts (a .messages .now) (a .entries .now))
+    rw (c .before .fresh .ensures) (starts _ first-suits (a .messages .now) (a .entries .now))
 
 sub-rest : tie.Need-sub-rest Inv-loop μ-loop
 sub-rest c = search needs
@@ -49,107 +54,522 @@ whole-length-requires c κs = search needs
 read-message-requires : tie.Need-read-message-requires Inv-loop μ-loop
 read-message-requires c κs = search needs
 
-place-of-requires : tie.Need-place-of-requires Inv-loop μ-loop
-place-of-requires c κs = search needs
+sub-with-room : tie.Need-sub-with-room Inv-loop μ-loop
+sub-with-room c = search needs
 
--- the number that was read is below 16
-low : (c : tie.After-place-of Inv-loop μ-loop) → c .place-of .result < 16
-low c = place-low _ _ _ (c .before .read-message .ensures) (c .place-of .ensures)
+with-room-requires : tie.Need-with-room-requires Inv-loop μ-loop
+with-room-requires c κs = search needs
 
-mul-send : tie.Need-mul-send Inv-loop μ-loop
-mul-send c = record { fits = omega (arith, low c) }
+enum-known-reading : tie.Need-enum-known-reading Inv-loop μ-loop
+enum-known-reading c = search needs
 
-array-copy-out-send : tie.Need-array-copy-out-send Inv-loop μ-loop
-array-copy-out-send c = low c
+-- where the loop stands, and where the run began
+abbrev at-loop : tie.After-with-room Inv-loop μ-loop → tie.At-loop Inv-loop μ-loop
+at-loop c =
+    let numbered = c .before .before .before in
+    numbered .before .before .before .before
 
-sub-send : tie.Need-sub-send Inv-loop μ-loop
-sub-send c = search needs
+abbrev began : tie.At-loop Inv-loop μ-loop → tie.Start Inv-loop μ-loop
+began c = c .before .before .before .before .before
 
-part-send-start : tie.Need-part-send-start Inv-loop μ-loop
-part-send-start c = search needs
+abbrev as-register : List Account → Register
+as-register accounts = record { accounts = accounts }
 
-part-send-end : tie.Need-part-send-end Inv-loop μ-loop
-part-send-end c = search needs
+abbrev register : tie.At-loop Inv-loop μ-loop → Register
+register c = record { accounts = c .loop .accounts }
 
-send-requires : tie.Need-send-requires Inv-loop μ-loop
-send-requires c κs = search needs
+-- there are messages left
+more : (c : tie.After-with-room Inv-loop μ-loop) → let v = at-loop c in v .loop .ran .consumed < length (began v .args .messages .now)
+more c =
+    let numbered = c .before .before .before in
+    numbered .before .before .if1 .taken
+
+-- what was looked at
+looked : (c : tie.After-with-room Inv-loop μ-loop) → let v = at-loop c in
+    Looked _ first-suits (began v .args .messages .now) (register v) (v .loop .ran) (v .loop .entries) (c .before .before .before .number1 .result) (c .before .before .whole-length .result) (c .before .read-message .result) (c .with-room .result)
+looked c =
+    record {
+      room = at-loop c .loop .inv .room;
+      kind′ = c .before .before .before .number1 .ensures;
+      whole′ = c .before .before .whole-length .ensures;
+      read′ = c .before .read-message .ensures;
+      roomed′ = c .with-room .ensures;
+    }
+
+enum-told : tie.Need-enum-told Inv-loop μ-loop
+enum-told c = search needs
+
+refusal-of-reading-requires : tie.Need-refusal-of-reading-requires Inv-loop μ-loop
+refusal-of-reading-requires c κs = search needs
+
+passed-over-requires : tie.Need-passed-over-requires Inv-loop μ-loop
+passed-over-requires c κs = search needs
+
+-- A refusal of the reader or of the room: the turn, once it has been counted as passed.
+refused-turn : (c : tie.After-passed-over Inv-loop μ-loop) → let v = at-loop (c .before .before .before .before) in
+    Turn _ first-suits (began v .args .messages .now) (register v) (v .loop .ran) (v .loop .entries) (register v) (c .passed-over .result) (v .loop .entries)
+refused-turn c =
+    let numbered = c .before in
+    let told = numbered .before in
+    let at-room = told .before .before in
+    let v = at-loop at-room in
+    turn-refused _ first-suits (began v .args .messages .now) (register v) (v .loop .ran) (v .loop .entries) _ _ _ _ (looked at-room)
+    (told .enum-told .given .0 .0) (numbered .refusal-of-reading .result) (c .passed-over .result) (told .enum-told .given .1) (numbered .refusal-of-reading .ensures) (c .passed-over .ensures)
+
+with-message-requires : tie.Need-with-message-requires Inv-loop μ-loop
+with-message-requires c κs =
+    let at-room = c .before .before .before .before in
+    let v = at-loop at-room in
+    let start = began v in
+    countable _ first-suits (start .args .messages .now) (start .args .entries .now) (register v) (v .loop .ran) (v .loop .entries) (register v) (c .passed-over .result) (v .loop .entries)
+    (v .loop .inv) (refused-turn c) (more at-room) (start .good .0 .0) (start .good .1 .0 .0)
+
+same-length : tie.Need-same-length Inv-loop μ-loop
+same-length c =
+    let passed = c .before .before in
+    at-loop (passed .before .before .before .before) .loop .inv .size
+
+returns : tie.Need-returns Inv-loop μ-loop
+returns c =
+    let counted = c .before in
+    let passed = counted .before in
+    let at-room = passed .before .before .before .before in
+    let v = at-loop at-room in
+    let start = began v in
+    let whole =
+    stops-there _ first-suits (start .args .messages .now) (start .args .entries .now) (register v) (v .loop .ran) (v .loop .entries) (register v) (passed .passed-over .result) (v .loop .entries)
+    (v .loop .inv) (refused-turn passed) (more at-room) (c .if2 .taken) in
+    (counted .with-message .ensures ∙ sym (ap (λ (x : Run). x .counts) whole), sym (ap (λ (x : Run). x .entries) whole))
+
+loop-less : tie.Need-loop-less Inv-loop μ-loop
+loop-less c =
+    let counted = c .before in
+    let passed = counted .before in
+    let at-room = passed .before .before .before .before in
+    let v = at-loop at-room in
+    let start = began v in
+    rw (counted .with-message .ensures)
+    (less-left _ first-suits (start .args .messages .now) (start .args .entries .now) (register v) (v .loop .ran) (v .loop .entries) (register v) (passed .passed-over .result) (v .loop .entries)
+    (v .loop .inv) (refused-turn passed) (more at-room) (c .if2 .left))
+
+loop-again : tie.Need-loop-again Inv-loop μ-loop
+loop-again c =
+    let counted = c .before in
+    let passed = counted .before in
+    let at-room = passed .before .before .before .before in
+    let v = at-loop at-room in
+    let start = began v in
+    rw (counted .with-message .ensures)
+    (goes-on _ first-suits (start .args .messages .now) (start .args .entries .now) (register v) (v .loop .ran) (v .loop .entries) (register v) (passed .passed-over .result) (v .loop .entries)
+    (v .loop .inv) (refused-turn passed) (more at-room) (c .if2 .left))
+
+-- A request.
+enum-known-message : tie.Need-enum-known-message Inv-loop μ-loop
+enum-known-message c = search needs
+
+cast-at : tie.Need-cast-at Inv-loop μ-loop
+cast-at c = search needs
+
+-- the message, and what was read
+abbrev requested-message : tie.After-message Inv-loop μ-loop → Message
+requested-message c = let said = c .message .given in Request (said .0 .0) (said .0 .1 .0)
+
+abbrev requested-room : tie.After-message Inv-loop μ-loop → tie.After-with-room Inv-loop μ-loop
+requested-room c = c .before .before .before .before .before
+
+requested-read : (c : tie.After-message Inv-loop μ-loop) → requested-room c .with-room .result ≡ Reading′.Message (requested-message c) (c .before .before .before .reading .given .0 .1 .0)
+requested-read c =
+    let read = c .before .before .before .reading .given in
+    read .1 ∙ ap (λ (m : Message). Reading′.Message m (read .0 .1 .0)) (c .message .given .1)
+
+requested-low : (c : tie.After-message Inv-loop μ-loop) → c .message .given .0 .0 .account < 16
+requested-low c =
+    let at-room = requested-room c in
+    let v = at-loop at-room in
+    named-low _ first-suits (began v .args .messages .now) (register v) (v .loop .ran) (v .loop .entries) _ _ _ _ (looked at-room) (requested-message c) _ (requested-read c)
+
+mul-account : tie.Need-mul-account Inv-loop μ-loop
+mul-account c = record { fits = omega (arith, requested-low (c .before .before .before)) }
+
+array-copy-out-account : tie.Need-array-copy-out-account Inv-loop μ-loop
+array-copy-out-account c = requested-low (c .before .before .before)
+
+request-requires : tie.Need-request-requires Inv-loop μ-loop
+request-requires c κs = search needs
+
+-- what is written so far is within the buffer
+requested-roomy : (c : tie.After-request Inv-loop μ-loop) → let v = at-loop (requested-room (c .before .before .before .before .before)) in v .loop .ran .written ≤ length (v .loop .entries)
+requested-roomy c = at-loop (requested-room (c .before .before .before .before .before)) .loop .inv .room
+
+sub-file : tie.Need-sub-file Inv-loop μ-loop
+sub-file c = requested-roomy (c .before)
+
+part-file-start : tie.Need-part-file-start Inv-loop μ-loop
+part-file-start c = requested-roomy (c .before)
+
+part-file-end : tie.Need-part-file-end Inv-loop μ-loop
+part-file-end c = search needs
+
+file-requires : tie.Need-file-requires Inv-loop μ-loop
+file-requires c κs =
+    let stepped = c .before .before in
+    let message = stepped .before .before .before .before .before in
+    let at-room = requested-room message in
+    let v = at-loop at-room in
+    turn-fits _ first-suits (began v .args .messages .now) (register v) (v .loop .ran) (v .loop .entries) _ _ _ _ (looked at-room) (requested-message message) _ (requested-read message)
+    (stepped .request .result) (stepped .request .ensures)
 
 passed-by-requires : tie.Need-passed-by-requires Inv-loop μ-loop
 passed-by-requires c κs = search needs
 
--- the entry buffer and the register after the call, and the turn, once its message has been counted as passed
-abbrev left : tie.After-passed-by Inv-loop μ-loop → List ℕ
-left c =
-    let v = c .before .before .before .before .before .before .before .before .before .before .before .before .before .loop in
-    putMid (v .ran .written) (length (v .entries) - v .ran .written) (v .entries) (c .before .before .before .send .last .1 .1 .0)
+-- the account's step, once the message has been counted as passed; and what the run has then
+abbrev requested-filed : tie.After-struct-known3 Inv-loop μ-loop → tie.After-file Inv-loop μ-loop
+requested-filed c = c .before .before .before .before
 
-abbrev next : tie.After-passed-by Inv-loop μ-loop → Register
-next c = record { accounts = set (c .before .before .before .before .before .before .before .before .before .before .before .before .before .loop .accounts) (c .before .before .before .before .before .before .place-of .result) (c .before .before .before .send .result .account) }
+abbrev requested-step : tie.After-struct-known3 Inv-loop μ-loop → tie.After-request Inv-loop μ-loop
+requested-step c = requested-filed c .before .before .before
 
-turn : (c : tie.After-passed-by Inv-loop μ-loop)
-    → let v = c .before .before .before .before .before .before .before .before .before .before .before .before .before .loop in
-    Turn (c .before .before .before .before .before .before .before .before .before .before .before .before .before .before .before .before .before .before .args .messages .now) (record { accounts = v .accounts }) (v .ran) (v .entries) (next c) (c .passed-by .result) (left c)
-turn c =
-    let a = c .before .before .before .before .before .before .before .before .before .before .before .before .before .before .before .before .before .before .args in
-    let v = c .before .before .before .before .before .before .before .before .before .before .before .before .before .loop in
-    let kind = c .before .before .before .before .before .before .before .before .before .number1 in
-    let whole = c .before .before .before .before .before .before .before .before .whole-length in
-    let read = c .before .before .before .before .before .before .before .read-message in
-    let named = c .before .before .before .before .before .before .place-of in
-    let sent = c .before .before .before .send in
-    let r : Register = record { accounts = v .accounts } in
-    turned (a .messages .now) r (v .ran) (v .entries) (kind .result) (whole .result) (sent .result .answer) (next c) (c .passed-by .result) (sent .last .1 .1 .0) (v .inv .room)
-    (kind .ensures) (whole .ensures)
-    (call-gives r _ _ (read .result) (named .result) (sent .result .answer) (sent .result .account) (next c) (sent .last .1 .1 .0)
-    (read .ensures) (named .ensures) (sent .ensures .0) (sent .ensures .1) (sent .ensures .2) refl)
-    (c .passed-by .ensures)
+abbrev requested-named : tie.After-struct-known3 Inv-loop μ-loop → tie.After-message Inv-loop μ-loop
+requested-named c = requested-step c .before .before .before .before .before
 
--- a law of the turn, at the values that the code has there
-abbrev at-turn : {P : (bytes buffer : List ℕ) → Ran → Passed → (left : List ℕ) → Register → Type 0}
-    → ((bytes buffer : List ℕ) (r : Register) (ran : Ran) (entries : List ℕ) (next : Register) (passed : Passed) (left : List ℕ) → Underway bytes buffer r ran entries
-    → Turn bytes r ran entries next passed left → ran .consumed < length bytes → P bytes buffer ran passed left next)
-    → (c : tie.After-passed-by Inv-loop μ-loop)
-    → let a = c .before .before .before .before .before .before .before .before .before .before .before .before .before .before .before .before .before .before .args in
-    P (a .messages .now) (a .entries .now) (c .before .before .before .before .before .before .before .before .before .before .before .before .before .loop .ran) (c .passed-by .result) (left c) (next c)
-at-turn law c =
-    let a = c .before .before .before .before .before .before .before .before .before .before .before .before .before .before .before .before .before .before .args in
-    let v = c .before .before .before .before .before .before .before .before .before .before .before .before .before .loop in
-    law (a .messages .now) (a .entries .now) (record { accounts = v .accounts }) (v .ran) (v .entries) (next c) (c .passed-by .result) (left c) (v .inv) (turn c)
-    (c .before .before .before .before .before .before .before .before .before .before .before .if1 .taken)
-
-with-message-requires : tie.Need-with-message-requires Inv-loop μ-loop
-with-message-requires c κs =
-    let good = c .before .before .before .before .before .before .before .before .before .before .before .before .before .before .before .before .before .before .good in
-    at-turn countable c (good .0 .0) (good .1 .0 .0)
-
-same-length : tie.Need-same-length Inv-loop μ-loop
-same-length c = at-turn size-kept (c .before .before)
-
-returns : tie.Need-returns Inv-loop μ-loop
-returns c =
-    let whole = at-turn stops-there (c .before .before) (c .if2 .taken) in
-    (c .before .with-message .ensures ∙ sym (ap (λ (x : Run). x .counts) whole), sym (ap (λ (x : Run). x .entries) whole))
+abbrev requested-left : tie.After-struct-known3 Inv-loop μ-loop → List ℕ
+requested-left c =
+    let v = at-loop (requested-room (requested-named c)) .loop in
+    putMid (v .ran .written) (length (v .entries) - v .ran .written) (v .entries) (requested-filed c .file .last .1 .1 .1 .1 .0)
 
 mul-accounts : tie.Need-mul-accounts Inv-loop μ-loop
-mul-accounts c = record { fits = omega (arith, low (c .before .before .before .before .before .before .before .before .before)) }
+mul-accounts c = record { fits = omega (arith, requested-low (requested-named (c .before .before))) }
 
 array-set-from-accounts : tie.Need-array-set-from-accounts Inv-loop μ-loop
-array-set-from-accounts c = low (c .before .before .before .before .before .before .before .before .before)
+array-set-from-accounts c = requested-low (requested-named (c .before .before))
 
-loop-less : tie.Need-loop-less Inv-loop μ-loop
-loop-less c = rw (c .before .before .with-message .ensures) (at-turn less-left (c .before .before .before) (c .before .if2 .left))
+requested-turn : (c : tie.Joined3 Inv-loop μ-loop) → let v = at-loop (requested-room (requested-named (c .before))) in
+    Turn _ first-suits (began v .args .messages .now) (register v) (v .loop .ran) (v .loop .entries) (record { accounts = c .if3 .accounts }) (c .before .before .passed-by .result) (requested-left (c .before))
+requested-turn c =
+    let passed = c .before .before .passed-by in
+    let filed = requested-filed (c .before) .file in
+    let stepped = requested-step (c .before) .request in
+    let message = requested-named (c .before) in
+    let at-room = requested-room message in
+    let v = at-loop at-room in
+    turn-message _ first-suits (began v .args .messages .now) (register v) (v .loop .ran) (v .loop .entries) _ _ _ _ (looked at-room) (requested-message message) _ (requested-read message)
+    (stepped .result) (stepped .ensures) (filed .result) (passed .result) (filed .last .1 .1 .1 .1 .0) (record { accounts = c .if3 .accounts })
+    (filed .ensures .0) (filed .ensures .1) (passed .ensures)
+    (⊎-elim (λ z. inl (z .0 .taken, ap as-register (z .2))) (λ z. inr (z .0 .left, ap as-register (z .1))) (c .if3 .came))
 
-loop-again : tie.Need-loop-again Inv-loop μ-loop
-loop-again c = rw (c .before .before .with-message .ensures) (at-turn goes-on (c .before .before .before) (c .before .if2 .left))
+requested-on : (c : tie.Joined3 Inv-loop μ-loop) → c .before .before .passed-by .result .stops ≡ false
+requested-on c =
+    let passed = c .before .before .passed-by in
+    let filed = requested-filed (c .before) .file in
+    let stepped = requested-step (c .before) .request in
+    let message = requested-named (c .before) in
+    let at-room = requested-room message in
+    let v = at-loop at-room in
+    turn-on _ first-suits (began v .args .messages .now) (register v) (v .loop .ran) (v .loop .entries) _ _ _ _ (looked at-room) (requested-message message) _ (requested-read message)
+    (stepped .result) (stepped .ensures) (filed .result) (passed .result) (filed .ensures .0) (passed .ensures)
+
+with-message-requires-2 : tie.Need-with-message-requires-2 Inv-loop μ-loop
+with-message-requires-2 c κs =
+    let at-room = requested-room (requested-named (c .before)) in
+    let v = at-loop at-room in
+    let start = began v in
+    (countable _ first-suits (start .args .messages .now) (start .args .entries .now) (register v) (v .loop .ran) (v .loop .entries) (record { accounts = c .if3 .accounts })
+    (c .before .before .passed-by .result) (requested-left (c .before)) (v .loop .inv) (requested-turn c) (more at-room) (start .good .0 .0) (start .good .1 .0 .0))
+
+loop-less-2 : tie.Need-loop-less-2 Inv-loop μ-loop
+loop-less-2 c =
+    let joined = c .before in
+    let at-room = requested-room (requested-named (joined .before)) in
+    let v = at-loop at-room in
+    let start = began v in
+    rw (c .with-message2 .ensures)
+    (less-left _ first-suits (start .args .messages .now) (start .args .entries .now) (register v) (v .loop .ran) (v .loop .entries) (record { accounts = joined .if3 .accounts })
+    (joined .before .before .passed-by .result) (requested-left (joined .before)) (v .loop .inv) (requested-turn joined) (more at-room) (requested-on joined))
+
+loop-again-2 : tie.Need-loop-again-2 Inv-loop μ-loop
+loop-again-2 c =
+    let joined = c .before in
+    let at-room = requested-room (requested-named (joined .before)) in
+    let v = at-loop at-room in
+    let start = began v in
+    rw (c .with-message2 .ensures)
+    (goes-on _ first-suits (start .args .messages .now) (start .args .entries .now) (register v) (v .loop .ran) (v .loop .entries) (record { accounts = joined .if3 .accounts })
+    (joined .before .before .passed-by .result) (requested-left (joined .before)) (v .loop .inv) (requested-turn joined) (more at-room) (requested-on joined))
+
+-- A commit.
+enum-known-message-2 : tie.Need-enum-known-message-2 Inv-loop μ-loop
+enum-known-message-2 c = search needs
+
+cast-at-2 : tie.Need-cast-at-2 Inv-loop μ-loop
+cast-at-2 c = search needs
+
+-- the message, and what was read
+abbrev committed-message : tie.After-message2 Inv-loop μ-loop → Message
+committed-message c = let said = c .message2 .given in Commit (said .0 .0)
+
+abbrev committed-room : tie.After-message2 Inv-loop μ-loop → tie.After-with-room Inv-loop μ-loop
+committed-room c = c .before .before .before .before .before
+
+committed-read : (c : tie.After-message2 Inv-loop μ-loop) → committed-room c .with-room .result ≡ Reading′.Message (committed-message c) (c .before .before .before .reading .given .0 .1 .0)
+committed-read c =
+    let read = c .before .before .before .reading .given in
+    read .1 ∙ ap (λ (m : Message). Reading′.Message m (read .0 .1 .0)) (c .message2 .given .1)
+
+committed-low : (c : tie.After-message2 Inv-loop μ-loop) → c .message2 .given .0 .0 .account < 16
+committed-low c =
+    let at-room = committed-room c in
+    let v = at-loop at-room in
+    named-low _ first-suits (began v .args .messages .now) (register v) (v .loop .ran) (v .loop .entries) _ _ _ _ (looked at-room) (committed-message c) _ (committed-read c)
+
+mul-account-2 : tie.Need-mul-account-2 Inv-loop μ-loop
+mul-account-2 c = record { fits = omega (arith, committed-low (c .before .before .before)) }
+
+array-copy-out-account-2 : tie.Need-array-copy-out-account-2 Inv-loop μ-loop
+array-copy-out-account-2 c = committed-low (c .before .before .before)
+
+commit-requires : tie.Need-commit-requires Inv-loop μ-loop
+commit-requires c κs = search needs
+
+-- what is written so far is within the buffer
+committed-roomy : (c : tie.After-commit Inv-loop μ-loop) → let v = at-loop (committed-room (c .before .before .before .before .before)) in v .loop .ran .written ≤ length (v .loop .entries)
+committed-roomy c = at-loop (committed-room (c .before .before .before .before .before)) .loop .inv .room
+
+sub-file-2 : tie.Need-sub-file-2 Inv-loop μ-loop
+sub-file-2 c = committed-roomy (c .before)
+
+part-file-start-2 : tie.Need-part-file-start-2 Inv-loop μ-loop
+part-file-start-2 c = committed-roomy (c .before)
+
+part-file-end-2 : tie.Need-part-file-end-2 Inv-loop μ-loop
+part-file-end-2 c = search needs
+
+file-requires-2 : tie.Need-file-requires-2 Inv-loop μ-loop
+file-requires-2 c κs =
+    let stepped = c .before .before in
+    let message = stepped .before .before .before .before .before in
+    let at-room = committed-room message in
+    let v = at-loop at-room in
+    turn-fits _ first-suits (began v .args .messages .now) (register v) (v .loop .ran) (v .loop .entries) _ _ _ _ (looked at-room) (committed-message message) _ (committed-read message)
+    (stepped .commit .result) (stepped .commit .ensures)
+
+passed-by-requires-2 : tie.Need-passed-by-requires-2 Inv-loop μ-loop
+passed-by-requires-2 c κs = search needs
+
+-- the account's step, once the message has been counted as passed; and what the run has then
+abbrev committed-filed : tie.After-struct-known5 Inv-loop μ-loop → tie.After-file2 Inv-loop μ-loop
+committed-filed c = c .before .before .before .before
+
+abbrev committed-step : tie.After-struct-known5 Inv-loop μ-loop → tie.After-commit Inv-loop μ-loop
+committed-step c = committed-filed c .before .before .before
+
+abbrev committed-named : tie.After-struct-known5 Inv-loop μ-loop → tie.After-message2 Inv-loop μ-loop
+committed-named c = committed-step c .before .before .before .before .before
+
+abbrev committed-left : tie.After-struct-known5 Inv-loop μ-loop → List ℕ
+committed-left c =
+    let v = at-loop (committed-room (committed-named c)) .loop in
+    putMid (v .ran .written) (length (v .entries) - v .ran .written) (v .entries) (committed-filed c .file2 .last .1 .1 .1 .1 .0)
+
+mul-accounts-2 : tie.Need-mul-accounts-2 Inv-loop μ-loop
+mul-accounts-2 c = record { fits = omega (arith, committed-low (committed-named (c .before .before))) }
+
+array-set-from-accounts-2 : tie.Need-array-set-from-accounts-2 Inv-loop μ-loop
+array-set-from-accounts-2 c = committed-low (committed-named (c .before .before))
+
+committed-turn : (c : tie.Joined4 Inv-loop μ-loop) → let v = at-loop (committed-room (committed-named (c .before))) in
+    Turn _ first-suits (began v .args .messages .now) (register v) (v .loop .ran) (v .loop .entries) (record { accounts = c .if4 .accounts }) (c .before .before .passed-by2 .result) (committed-left (c .before))
+committed-turn c =
+    let passed = c .before .before .passed-by2 in
+    let filed = committed-filed (c .before) .file2 in
+    let stepped = committed-step (c .before) .commit in
+    let message = committed-named (c .before) in
+    let at-room = committed-room message in
+    let v = at-loop at-room in
+    turn-message _ first-suits (began v .args .messages .now) (register v) (v .loop .ran) (v .loop .entries) _ _ _ _ (looked at-room) (committed-message message) _ (committed-read message)
+    (stepped .result) (stepped .ensures) (filed .result) (passed .result) (filed .last .1 .1 .1 .1 .0) (record { accounts = c .if4 .accounts })
+    (filed .ensures .0) (filed .ensures .1) (passed .ensures)
+    (⊎-elim (λ z. inl (z .0 .taken, ap as-register (z .2))) (λ z. inr (z .0 .left, ap as-register (z .1))) (c .if4 .came))
+
+committed-on : (c : tie.Joined4 Inv-loop μ-loop) → c .before .before .passed-by2 .result .stops ≡ false
+committed-on c =
+    let passed = c .before .before .passed-by2 in
+    let filed = committed-filed (c .before) .file2 in
+    let stepped = committed-step (c .before) .commit in
+    let message = committed-named (c .before) in
+    let at-room = committed-room message in
+    let v = at-loop at-room in
+    turn-on _ first-suits (began v .args .messages .now) (register v) (v .loop .ran) (v .loop .entries) _ _ _ _ (looked at-room) (committed-message message) _ (committed-read message)
+    (stepped .result) (stepped .ensures) (filed .result) (passed .result) (filed .ensures .0) (passed .ensures)
+
+with-message-requires-3 : tie.Need-with-message-requires-3 Inv-loop μ-loop
+with-message-requires-3 c κs =
+    let at-room = committed-room (committed-named (c .before)) in
+    let v = at-loop at-room in
+    let start = began v in
+    (countable _ first-suits (start .args .messages .now) (start .args .entries .now) (register v) (v .loop .ran) (v .loop .entries) (record { accounts = c .if4 .accounts })
+    (c .before .before .passed-by2 .result) (committed-left (c .before)) (v .loop .inv) (committed-turn c) (more at-room) (start .good .0 .0) (start .good .1 .0 .0))
+
+loop-less-3 : tie.Need-loop-less-3 Inv-loop μ-loop
+loop-less-3 c =
+    let joined = c .before in
+    let at-room = committed-room (committed-named (joined .before)) in
+    let v = at-loop at-room in
+    let start = began v in
+    rw (c .with-message3 .ensures)
+    (less-left _ first-suits (start .args .messages .now) (start .args .entries .now) (register v) (v .loop .ran) (v .loop .entries) (record { accounts = joined .if4 .accounts })
+    (joined .before .before .passed-by2 .result) (committed-left (joined .before)) (v .loop .inv) (committed-turn joined) (more at-room) (committed-on joined))
+
+loop-again-3 : tie.Need-loop-again-3 Inv-loop μ-loop
+loop-again-3 c =
+    let joined = c .before in
+    let at-room = committed-room (committed-named (joined .before)) in
+    let v = at-loop at-room in
+    let start = began v in
+    rw (c .with-message3 .ensures)
+    (goes-on _ first-suits (start .args .messages .now) (start .args .entries .now) (register v) (v .loop .ran) (v .loop .entries) (record { accounts = joined .if4 .accounts })
+    (joined .before .before .passed-by2 .result) (committed-left (joined .before)) (v .loop .inv) (committed-turn joined) (more at-room) (committed-on joined))
+
+-- An abort.
+enum-known-message-3 : tie.Need-enum-known-message-3 Inv-loop μ-loop
+enum-known-message-3 c = search needs
+
+cast-at-3 : tie.Need-cast-at-3 Inv-loop μ-loop
+cast-at-3 c = search needs
+
+-- the message, and what was read
+abbrev aborted-message : tie.After-message3 Inv-loop μ-loop → Message
+aborted-message c = let said = c .message3 .given in Abort (said .0 .0)
+
+abbrev aborted-room : tie.After-message3 Inv-loop μ-loop → tie.After-with-room Inv-loop μ-loop
+aborted-room c = c .before .before .before .before .before
+
+aborted-read : (c : tie.After-message3 Inv-loop μ-loop) → aborted-room c .with-room .result ≡ Reading′.Message (aborted-message c) (c .before .before .before .reading .given .0 .1 .0)
+aborted-read c =
+    let read = c .before .before .before .reading .given in
+    read .1 ∙ ap (λ (m : Message). Reading′.Message m (read .0 .1 .0)) (c .message3 .given .1)
+
+aborted-low : (c : tie.After-message3 Inv-loop μ-loop) → c .message3 .given .0 .0 .account < 16
+aborted-low c =
+    let at-room = aborted-room c in
+    let v = at-loop at-room in
+    named-low _ first-suits (began v .args .messages .now) (register v) (v .loop .ran) (v .loop .entries) _ _ _ _ (looked at-room) (aborted-message c) _ (aborted-read c)
+
+mul-account-3 : tie.Need-mul-account-3 Inv-loop μ-loop
+mul-account-3 c = record { fits = omega (arith, aborted-low (c .before .before .before)) }
+
+array-copy-out-account-3 : tie.Need-array-copy-out-account-3 Inv-loop μ-loop
+array-copy-out-account-3 c = aborted-low (c .before .before .before)
+
+abort-requires : tie.Need-abort-requires Inv-loop μ-loop
+abort-requires c κs = search needs
+
+-- what is written so far is within the buffer
+aborted-roomy : (c : tie.After-abort Inv-loop μ-loop) → let v = at-loop (aborted-room (c .before .before .before .before .before)) in v .loop .ran .written ≤ length (v .loop .entries)
+aborted-roomy c = at-loop (aborted-room (c .before .before .before .before .before)) .loop .inv .room
+
+sub-file-3 : tie.Need-sub-file-3 Inv-loop μ-loop
+sub-file-3 c = aborted-roomy (c .before)
+
+part-file-start-3 : tie.Need-part-file-start-3 Inv-loop μ-loop
+part-file-start-3 c = aborted-roomy (c .before)
+
+part-file-end-3 : tie.Need-part-file-end-3 Inv-loop μ-loop
+part-file-end-3 c = search needs
+
+file-requires-3 : tie.Need-file-requires-3 Inv-loop μ-loop
+file-requires-3 c κs =
+    let stepped = c .before .before in
+    let message = stepped .before .before .before .before .before in
+    let at-room = aborted-room message in
+    let v = at-loop at-room in
+    turn-fits _ first-suits (began v .args .messages .now) (register v) (v .loop .ran) (v .loop .entries) _ _ _ _ (looked at-room) (aborted-message message) _ (aborted-read message)
+    (stepped .abort .result) (stepped .abort .ensures)
+
+passed-by-requires-3 : tie.Need-passed-by-requires-3 Inv-loop μ-loop
+passed-by-requires-3 c κs = search needs
+
+-- the account's step, once the message has been counted as passed; and what the run has then
+abbrev aborted-filed : tie.After-struct-known7 Inv-loop μ-loop → tie.After-file3 Inv-loop μ-loop
+aborted-filed c = c .before .before .before .before
+
+abbrev aborted-step : tie.After-struct-known7 Inv-loop μ-loop → tie.After-abort Inv-loop μ-loop
+aborted-step c = aborted-filed c .before .before .before
+
+abbrev aborted-named : tie.After-struct-known7 Inv-loop μ-loop → tie.After-message3 Inv-loop μ-loop
+aborted-named c = aborted-step c .before .before .before .before .before
+
+abbrev aborted-left : tie.After-struct-known7 Inv-loop μ-loop → List ℕ
+aborted-left c =
+    let v = at-loop (aborted-room (aborted-named c)) .loop in
+    putMid (v .ran .written) (length (v .entries) - v .ran .written) (v .entries) (aborted-filed c .file3 .last .1 .1 .1 .1 .0)
+
+mul-accounts-3 : tie.Need-mul-accounts-3 Inv-loop μ-loop
+mul-accounts-3 c = record { fits = omega (arith, aborted-low (aborted-named (c .before .before))) }
+
+array-set-from-accounts-3 : tie.Need-array-set-from-accounts-3 Inv-loop μ-loop
+array-set-from-accounts-3 c = aborted-low (aborted-named (c .before .before))
+
+aborted-turn : (c : tie.Joined5 Inv-loop μ-loop) → let v = at-loop (aborted-room (aborted-named (c .before))) in
+    Turn _ first-suits (began v .args .messages .now) (register v) (v .loop .ran) (v .loop .entries) (record { accounts = c .if5 .accounts }) (c .before .before .passed-by3 .result) (aborted-left (c .before))
+aborted-turn c =
+    let passed = c .before .before .passed-by3 in
+    let filed = aborted-filed (c .before) .file3 in
+    let stepped = aborted-step (c .before) .abort in
+    let message = aborted-named (c .before) in
+    let at-room = aborted-room message in
+    let v = at-loop at-room in
+    turn-message _ first-suits (began v .args .messages .now) (register v) (v .loop .ran) (v .loop .entries) _ _ _ _ (looked at-room) (aborted-message message) _ (aborted-read message)
+    (stepped .result) (stepped .ensures) (filed .result) (passed .result) (filed .last .1 .1 .1 .1 .0) (record { accounts = c .if5 .accounts })
+    (filed .ensures .0) (filed .ensures .1) (passed .ensures)
+    (⊎-elim (λ z. inl (z .0 .taken, ap as-register (z .2))) (λ z. inr (z .0 .left, ap as-register (z .1))) (c .if5 .came))
+
+aborted-on : (c : tie.Joined5 Inv-loop μ-loop) → c .before .before .passed-by3 .result .stops ≡ false
+aborted-on c =
+    let passed = c .before .before .passed-by3 in
+    let filed = aborted-filed (c .before) .file3 in
+    let stepped = aborted-step (c .before) .abort in
+    let message = aborted-named (c .before) in
+    let at-room = aborted-room message in
+    let v = at-loop at-room in
+    turn-on _ first-suits (began v .args .messages .now) (register v) (v .loop .ran) (v .loop .entries) _ _ _ _ (looked at-room) (aborted-message message) _ (aborted-read message)
+    (stepped .result) (stepped .ensures) (filed .result) (passed .result) (filed .ensures .0) (passed .ensures)
+
+with-message-requires-4 : tie.Need-with-message-requires-4 Inv-loop μ-loop
+with-message-requires-4 c κs =
+    let at-room = aborted-room (aborted-named (c .before)) in
+    let v = at-loop at-room in
+    let start = began v in
+    (countable _ first-suits (start .args .messages .now) (start .args .entries .now) (register v) (v .loop .ran) (v .loop .entries) (record { accounts = c .if5 .accounts })
+    (c .before .before .passed-by3 .result) (aborted-left (c .before)) (v .loop .inv) (aborted-turn c) (more at-room) (start .good .0 .0) (start .good .1 .0 .0))
+
+loop-less-4 : tie.Need-loop-less-4 Inv-loop μ-loop
+loop-less-4 c =
+    let joined = c .before in
+    let at-room = aborted-room (aborted-named (joined .before)) in
+    let v = at-loop at-room in
+    let start = began v in
+    rw (c .with-message4 .ensures)
+    (less-left _ first-suits (start .args .messages .now) (start .args .entries .now) (register v) (v .loop .ran) (v .loop .entries) (record { accounts = joined .if5 .accounts })
+    (joined .before .before .passed-by3 .result) (aborted-left (joined .before)) (v .loop .inv) (aborted-turn joined) (more at-room) (aborted-on joined))
+
+loop-again-4 : tie.Need-loop-again-4 Inv-loop μ-loop
+loop-again-4 c =
+    let joined = c .before in
+    let at-room = aborted-room (aborted-named (joined .before)) in
+    let v = at-loop at-room in
+    let start = began v in
+    rw (c .with-message4 .ensures)
+    (goes-on _ first-suits (start .args .messages .now) (start .args .entries .now) (register v) (v .loop .ran) (v .loop .entries) (record { accounts = joined .if5 .accounts })
+    (joined .before .before .passed-by3 .result) (aborted-left (joined .before)) (v .loop .inv) (aborted-turn joined) (more at-room) (aborted-on joined))
 
 same-length-2 : tie.Need-same-length-2 Inv-loop μ-loop
 same-length-2 c = c .before .before .loop .inv .size
 
 returns-2 : tie.Need-returns-2 Inv-loop μ-loop
 returns-2 c =
-    let a = c .before .before .before .before .before .before .before .args in
-    let v = c .before .before .loop in
-    let whole = ends (a .messages .now) (a .entries .now) (record { accounts = v .accounts }) (v .ran) (v .entries) (v .inv) (c .if1 .left) in
+    let v = c .before .before in
+    let start = began v in
+    let whole = ends _ first-suits (start .args .messages .now) (start .args .entries .now) (register v) (v .loop .ran) (v .loop .entries) (v .loop .inv) (c .if1 .left) in
     (sym (ap (λ (x : Run). x .counts) whole), sym (ap (λ (x : Run). x .entries) whole))
 
 pub run-spec : {M : Type 1} → statement M
@@ -166,20 +586,61 @@ run-spec =
     number1-requires
     whole-length-requires
     read-message-requires
-    place-of-requires
-    mul-send
-    array-copy-out-send
-    sub-send
-    part-send-start
-    part-send-end
-    send-requires
-    passed-by-requires
+    sub-with-room
+    with-room-requires
+    enum-known-reading
+    enum-told
+    refusal-of-reading-requires
+    passed-over-requires
     with-message-requires
     same-length
     returns
-    mul-accounts
-    array-set-from-accounts
     loop-less
     loop-again
+    enum-known-message
+    cast-at
+    mul-account
+    array-copy-out-account
+    request-requires
+    sub-file
+    part-file-start
+    part-file-end
+    file-requires
+    passed-by-requires
+    mul-accounts
+    array-set-from-accounts
+    with-message-requires-2
+    loop-less-2
+    loop-again-2
+    enum-known-message-2
+    cast-at-2
+    mul-account-2
+    array-copy-out-account-2
+    commit-requires
+    sub-file-2
+    part-file-start-2
+    part-file-end-2
+    file-requires-2
+    passed-by-requires-2
+    mul-accounts-2
+    array-set-from-accounts-2
+    with-message-requires-3
+    loop-less-3
+    loop-again-3
+    enum-known-message-3
+    cast-at-3
+    mul-account-3
+    array-copy-out-account-3
+    abort-requires
+    sub-file-3
+    part-file-start-3
+    part-file-end-3
+    file-requires-3
+    passed-by-requires-3
+    mul-accounts-3
+    array-set-from-accounts-3
+    with-message-requires-4
+    loop-less-4
+    loop-again-4
     same-length-2
     returns-2)

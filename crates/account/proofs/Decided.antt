@@ -1,0 +1,75 @@
+-- The decision by what is known of the outcomes is the rule's, where each event in progress finds its guard; with no free place it is to hold.
+-- Assumes nothing.
+use Prim.Native.Nat.{ℕ, _≤_, _<_}
+use mathlib.Core.Path.{_≡_, refl, ap, _∙_}
+use mathlib.Core.Bool.{Bool, true, false, cond, false≢true}
+use mathlib.Core.List.{List, [], _∷_}
+use native.Mathlib.Omega.{arith}
+use lib.ListN.{length}
+use borrow.Author.Tests.{le-leb, lt-leb}
+use Rattle.rule.specs.Rule as rule
+use Rattle.rule.specs.Outcome.{outcomes}
+use Rattle.rule.specs.Weigh.{weigh, decide}
+use Rattle.rule.specs.InOrder.{staysHeld}
+use Rattle.events.specs.declared.Event.{Event}
+use Rattle.events.specs.Range.{rangeOf, everyIn, someIn}
+use Rattle.events.proofs.Answers.{outcomes-every, outcomes-some}
+use Rattle.filing.specs.declared.Verdict.{Verdict}
+use Rattle.filing.specs.declared.Verdict.the-variants.{Accepted, Rejected, Held}
+use Rattle.filing.specs.declared.Weighing.{Weighing}
+use Rattle.filing.specs.Slots.{RuleSlot}
+use Rattle.filing.specs.Entries.{isHeld, verdictOf}
+use Rattle.account.specs.declared.outcomes.Outcomes.{Outcomes}
+use Rattle.account.specs.First.{progressLimit, heldLimit, panel}
+use Rattle.account.specs.inside.Known.{Decides, StaysHeld, verdictBy}
+
+by-tests : (a b : Bool) → verdictOf (verdictBy a b) ≡ cond a rule.accept (cond b rule.hold rule.reject)
+by-tests true b = refl
+by-tests false true = refl
+by-tests false false = refl
+
+abbrev unweighed : Weighing
+unweighed = record { verdict = Held; weighed = 0 }
+
+module _ (e : Event) (n : ℕ) (o : Outcomes) where
+  -- no place is free in progress
+  pub decided-full : progressLimit ≤ n → Decides [] e n o unweighed
+  unfolding decide
+  decided-full h = record { free = λ v. absurd (false≢true v); decided = λ s xs k g q. rw (q, le-leb progressLimit n h) }
+
+  -- else what is known of the outcomes decides
+  pub decided-known : n < progressLimit → Decides [] e n o (record { verdict = verdictBy (everyIn e (o .range)) (someIn e (o .range)); weighed = o .number })
+  unfolding decide weigh
+  decided-known h =
+      record {
+        free = λ v. h;
+        decided = λ s xs k g q.
+            let range : o .range ≡ rangeOf (outcomes panel xs s) = k .range g in
+            rw (
+              q,
+              lt-leb progressLimit n h,
+              by-tests (everyIn e (o .range)) (someIn e (o .range)),
+              range,
+              outcomes-every progressLimit heldLimit s xs e,
+              outcomes-some progressLimit heldLimit s xs e,
+              k .number,
+            );
+      }
+
+  -- behind requests held, nothing is weighed; behind none, the decision is that with nothing held
+  pub decided-behind : (requests : List RuleSlot) → 0 < length requests → Decides requests e n o unweighed
+  decided-behind [] h = absurd (omega arith)
+  decided-behind (x ∷ requests) h = record { free = λ v. absurd (false≢true v); decided = λ s xs k g q. refl }
+
+  pub decided-first : (requests : List RuleSlot) (w : Weighing) → length requests ≡ 0 → Decides [] e n o w → Decides requests e n o w
+  decided-first [] w h d = d
+  decided-first (x ∷ requests) w h d = absurd (omega arith)
+
+  -- whether it is held is then what the rule decides
+  held-same : (v : Verdict) → isHeld v ≡ staysHeld (verdictOf v)
+  held-same Accepted = refl
+  held-same Rejected = refl
+  held-same Held = refl
+
+  pub decided-stays : (w : Weighing) → Decides [] e n o w → StaysHeld e n o (isHeld (w .verdict))
+  decided-stays w d = λ s xs k g q. held-same (w .verdict) ∙ ap (λ (v : rule.Weighing). staysHeld (v .verdict)) (d .decided s xs k g q)
