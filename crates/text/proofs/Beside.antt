@@ -28,7 +28,7 @@ use Rattle.register.specs.Sequence.{Input, Exchange, ByteStrings, ruleEntry, en
 use Rattle.register.specs.Run.{lengthAt, passedOf}
 use Rattle.register.specs.RunCalls.{Calls, ended, stopped, skipped, taken, refusals, refusedAmong}
 use Rattle.register.specs.Whole.{Whole, with-amount, without-amount}
-use Rattle.register.proofs.Suits.{panel-suits}
+use Rattle.register.proofs.Suits.{first-suits}
 use Rattle.register.proofs.Passed.{passed-stops, passed-skips}
 use Rattle.register.proofs.Standing.{Stands, Refusable}
 use Rattle.register.proofs.Sending.{taken-bytes}
@@ -37,8 +37,8 @@ use Rattle.register.proofs.Calling.{Calling, calling}
 use Rattle.register.proofs.Moved.{call-moves, call-tells}
 use Rattle.register.proofs.Whole.{some-bytes, one-length}
 use Rattle.register.proofs.Sequences.{each-call}
-use Rattle.register.proofs.Sends.{call-is-send, sent-reads-back}
 use Rattle.register.proofs.RunCalls.{bytes-left}
+use Rattle.register.proofs.Demands.{demand2}
 use Rattle.text.specs.Text.{decimal, linesOf}
 use Rattle.text.specs.Quoted.{quoted}
 use Rattle.text.specs.Output.{refusedLine, Turn, turnAt, passedAt, turnsFrom, textsOf, refusedOf}
@@ -98,8 +98,8 @@ reads-back : (r : Register) (m : Message) (next : Register) (entries : Entries) 
     → EntryLines (bytesOfEntries (headingOf m .account) (listOf entries)) (linesOf (headingOf m .account) (listOf entries))
 reads-back r m next entries buffer reached w room e =
     let free : refusalIn (sentOf r m .answer) ≡ no-number = rw e in
-    let written = call-is-send panel r m [] buffer w room .entries free in
-    let read = (rw (← reached .same) at (sent-reads-back panel panel-suits (reached .done) (reached .strings) m [] buffer w room)) free in
+    let written = demand2 .sent r m [] buffer w room .entries free in
+    let read = (rw (← reached .same) at (demand2 .back (reached .done) (reached .strings) m [] buffer w room)) free in
     let back : entriesIn (bytesOfEntries (headingOf m .account) (listOf entries)) ≡ map ruleEntry (listOf entries) = rw e at (sym (ap entriesIn written) ∙ read) in
     lines-read (headingOf m .account) (w .account) (listOf entries) back
 
@@ -152,7 +152,7 @@ module _ (r : Register) (bytes buffer : List ℕ) (reached : Reached r) (are : A
   -- a call writes no more than 315 bytes
   written-few : {called : Result} → Calling panel r bytes buffer called → writtenOf (called .reply) ≤ 315
   written-few (call.refused n why) = omega arith
-  written-few (call.taken m consumed t) = taken-bytes panel r m panel-suits (t .free) (headingOf m .account)
+  written-few (call.taken m consumed t) = taken-bytes panel r m first-suits (t .free) (headingOf m .account)
 
   module _ (x : Exchange) (is : x ≡ seenAs r bytes buffer) where
     gives : (reply : Reply) → x .reply ≡ reply → callOf r bytes buffer .reply ≡ reply
@@ -177,7 +177,7 @@ module _ (r : Register) (bytes buffer : List ℕ) (reached : Reached r) (are : A
         → Beside (turnsFrom most (callOf r bytes buffer .register) (drop whole bytes)) seen → Beside (turnsFrom (suc most) r bytes) (x ∷ seen)
     one-skips most n whole seen h q w rest =
         let reply = gives (Refused n) q in
-        let stands = stands-refused bytes n h (rw reply at (call-tells panel panel-suits r bytes buffer)) in
+        let stands = stands-refused bytes n h (rw reply at (call-tells panel first-suits r bytes buffer)) in
         one-more most seen (a-byte w) (rw (reply, passed-skips n (lengthAt bytes) h, one-length (stands .whole) w) rest)
 
     one-takes : (most whole written : ℕ) (seen : List Exchange) → x .reply ≡ Taken whole written → Whole bytes whole
@@ -188,7 +188,7 @@ module _ (r : Register) (bytes buffer : List ℕ) (reached : Reached r) (are : A
     room-left : (whole written : ℕ) → x .reply ≡ Taken whole written → length buffer ≤ length (drop written (x .buffer)) + 315
     room-left whole written q =
         let few : written ≤ 315 = rw (gives (Taken whole written) q) at (written-few (calling panel r bytes buffer)) in
-        let size : length (x .buffer) ≡ length buffer = rw is (call-moves panel panel-suits r bytes buffer .size) in
+        let size : length (x .buffer) ≡ length buffer = rw is (call-moves panel first-suits r bytes buffer .size) in
         omega (arith, length-drop written (x .buffer))
 
 -- ---- the calls of the run

@@ -26,7 +26,7 @@ use Rattle.register.specs.First.{sentOf}
 use Rattle.register.specs.Run.{lengthAt, passedOf}
 use Rattle.register.proofs.Whole.{some-bytes}
 use Rattle.register.proofs.Passed.{passed-stops, passed-skips}
-use Rattle.register.proofs.Standing.{Stands, Refusable, told-read}
+use Rattle.register.proofs.Standing.{Stands, Refusable, reading-tells}
 use Rattle.register.proofs.Sending as send
 use Rattle.register.proofs.Sending.{Sending, sending}
 use Rattle.text.specs.Text.{linesOf}
@@ -62,7 +62,7 @@ module _ (r : Register) (bytes : List ℕ) where
 
   -- a message that was read stands whole at the beginning of the bytes
   pub stands-read : (m : Message) (consumed : ℕ) → readOf bytes ≡ Reading′.Message m consumed → (consumed ≡ lengthAt bytes) × Stands bytes
-  stands-read m consumed q = rw q at (told-read bytes)
+  stands-read m consumed q = rw q at (reading-tells bytes)
 
   -- what the message does to the lengths
   pub record Moves (passed : Passed) : Type 0 where
@@ -77,7 +77,7 @@ module _ (r : Register) (bytes : List ℕ) where
       rw (passed-skips n (lengthAt bytes) high) (record { once = omega arith; within = stands .all-there; forward = λ z. some-bytes (stands .whole) })
 
   moves : {turn : Turn} → Turning turn → Moves (passedOf (turn .reply) (lengthAt bytes))
-  moves (unread n q) = refused-moves n (rw q at (told-read bytes))
+  moves (unread n q) = refused-moves n (rw q at (reading-tells bytes))
   moves (unsent m consumed n q high e) = refused-moves n (inr (high, stands-read m consumed q .1))
   moves (taken m consumed next entries q e) =
       let s = stands-read m consumed q in
