@@ -37,8 +37,8 @@ use Rattle.register.proofs.Calling.{Calling, calling}
 use Rattle.register.proofs.Moved.{call-moves, call-tells}
 use Rattle.register.proofs.Whole.{some-bytes, one-length}
 use Rattle.register.proofs.Sequences.{each-call}
-use Rattle.register.proofs.Sends.{call-is-send, sent-reads-back}
 use Rattle.register.proofs.RunCalls.{bytes-left}
+use Rattle.register.proofs.Demands.{demand2}
 use Rattle.text.specs.Text.{decimal, linesOf}
 use Rattle.text.specs.Quoted.{quoted}
 use Rattle.text.specs.Output.{refusedLine, Turn, turnAt, passedAt, turnsFrom, textsOf, refusedOf}
@@ -98,8 +98,8 @@ reads-back : (r : Register) (m : Message) (next : Register) (entries : Entries) 
     → EntryLines (bytesOfEntries (headingOf m .account) (listOf entries)) (linesOf (headingOf m .account) (listOf entries))
 reads-back r m next entries buffer reached w room e =
     let free : refusalIn (sentOf r m .answer) ≡ no-number = rw e in
-    let written = call-is-send panel r m [] buffer w room .entries free in
-    let read = (rw (← reached .same) at (sent-reads-back panel first-suits (reached .done) (reached .strings) m [] buffer w room)) free in
+    let written = demand2 .sent r m [] buffer w room .entries free in
+    let read = (rw (← reached .same) at (demand2 .back (reached .done) (reached .strings) m [] buffer w room)) free in
     let back : entriesIn (bytesOfEntries (headingOf m .account) (listOf entries)) ≡ map ruleEntry (listOf entries) = rw e at (sym (ap entriesIn written) ∙ read) in
     lines-read (headingOf m .account) (w .account) (listOf entries) back
 
