@@ -1,0 +1,66 @@
+-- Account and image (docs/REGISTER.md, 15): the one is the other's, and what is no image reads as no account in order.
+-- Assumes nothing.
+use Prim.Native.Nat.{ℕ, _+_, _≤_, _<_}
+use mathlib.Core.Path.{_≡_}
+use mathlib.Core.Bool.{true, false}
+use mathlib.Core.List.{List, _++_}
+use lib.ListN.{length, getD, take, drop, replicate}
+use Rattle.events.specs.declared.Event.the-variants.{Open}
+use Rattle.events.specs.declared.Life.the-variants.{New}
+use Rattle.filing.specs.declared.Decision.the-variants.{Undecided}
+use Rattle.filing.specs.declared.Slot.{Slot}
+use Rattle.account.specs.declared.Account.{Account}
+use Rattle.account.specs.First.{inOrderOf}
+use Rattle.image.specs.Words.{wordsOf, storedIn}
+use Rattle.image.specs.Reading.{accountFrom}
+
+-- each of them is a word
+abbrev pub AreWords : List ℕ → Type 0
+AreWords words = (i : ℕ) → getD words i 0 ≤ 4_294_967_295
+
+-- an account as it is kept, with eight places in each row, whose counts are words
+pub record Kept (a : Account) : Type 0 where
+  pub progress : length (a .progress) ≡ 8
+  pub held : length (a .held) ≡ 8
+  pub progressing : a .progressing ≤ 4_294_967_295
+  pub holding : a .holding ≤ 4_294_967_295
+
+-- an image has 84 words, and reads back as its account, whatever stands before and after it;
+pub record ReadsBack (a : Account) : Type 0 where
+  pub size : length (wordsOf a) ≡ 84
+  pub back : (before after : List ℕ) → accountFrom (before ++ wordsOf a ++ after) (length before) ≡ a
+
+-- so no two accounts have one image
+abbrev pub OneAccount : Type 0
+OneAccount = (a b : Account) → Kept a → Kept b → wordsOf a ≡ wordsOf b → a ≡ b
+
+-- what reads as an account in order is that account's image; so no two contents read as one account in order,
+-- and one that is no account's image reads as an account that is not in order
+pub record WrittenBack (words : List ℕ) (from : ℕ) : Type 0 where
+  pub kept : inOrderOf (accountFrom words from) ≡ true → Kept (accountFrom words from)
+  pub image : inOrderOf (accountFrom words from) ≡ true → take 84 (drop from words) ≡ wordsOf (accountFrom words from)
+  pub none : ((a : Account) → Kept a → take 84 (drop from words) ≡ wordsOf a → ⊥) → inOrderOf (accountFrom words from) ≡ false
+
+-- zeroed words are the image of a fresh account
+abbrev pub blanks : List Slot
+blanks = replicate 8 (record { transaction = 0; filed = record { second = 0 }; event = Open 0; decision = Undecided })
+
+abbrev pub fresh : Account
+fresh =
+    record { state = record { life = New; balance = 0 }; progress = blanks; progressing = 0; held = blanks; holding = 0 }
+
+pub record Zeroed : Type 0 where
+  pub image : wordsOf fresh ≡ replicate 84 0
+  pub reads : (size from : ℕ) → from + 84 ≤ size → accountFrom (replicate size 0) from ≡ fresh
+
+-- the 84 words from `from` on are the image, and no other word changes; without room for all of them none does
+pub record Stores (words : List ℕ) (from : ℕ) (a : Account) : Type 0 where
+  pub room : from + 84 ≤ length words → storedIn words from a ≡ take from words ++ wordsOf a ++ drop (from + 84) words
+  pub none : length words < from + 84 → storedIn words from a ≡ words
+
+pub record ImagesHold : Type 0 where
+  pub read : (a : Account) → Kept a → ReadsBack a
+  pub one : OneAccount
+  pub written : (words : List ℕ) (from : ℕ) → AreWords words → WrittenBack words from
+  pub zeroed : Zeroed
+  pub stores : (words : List ℕ) (from : ℕ) (a : Account) → Kept a → Stores words from a

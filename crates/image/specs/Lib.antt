@@ -1,0 +1,4 @@
+pub mod Words
+pub mod Reading
+pub mod Images
+pub mod Vectors
