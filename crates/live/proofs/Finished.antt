@@ -80,7 +80,7 @@ module _ (image buffer : List ℕ) (i consumed : ℕ) (stepped : Stepped) where
       (rw (f, t) refl, k ∙ rw (f, h) refl, bytes-left (stepped .entries) i buffer fits last b ∙ rw f refl)
 
 module _ (R : Rule State Event ℕ) (image bytes buffer : List ℕ) where
-  live-refused : (n : ℕ) → calledBy R (registerOf image) bytes buffer ≡ refusedWith (registerOf image) buffer n → liveBy R image bytes buffer ≡ refusedLive image buffer n
+  pub live-refused : (n : ℕ) → calledBy R (registerOf image) bytes buffer ≡ refusedWith (registerOf image) buffer n → liveBy R image bytes buffer ≡ refusedLive image buffer n
   unfolding liveBy
   live-refused n e = rw e refl
 

@@ -2,4 +2,8 @@ pub mod Registers
 pub mod Live
 pub mod Exports
 pub mod First
+pub mod Images
+pub mod Keeping
+pub mod Forms
 pub mod Helpers
+pub mod Vectors
