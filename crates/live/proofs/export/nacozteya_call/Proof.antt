@@ -40,7 +40,8 @@ returns : tie.Need-returns
 returns c =
     let two = c .before .before .before in
     let one = two .before .before .before .before .before in
-    let called = one .before .before .before .before .before .before .before .call-image in
+    let lent = one .before .before .before in
+    let called = lent .before .before .before .before .call-image in
     let given = called .ensures in
     let written = two .before .written-of .ensures in
     let consumed = one .before .consumed-of .ensures in
