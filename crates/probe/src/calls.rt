@@ -4,8 +4,8 @@ use crate::page;
 use crate::page::Buffer;
 use crate::page::Page;
 use account::Outlook;
-use register::Answer;
 use register::Register;
+use register::Reply;
 
 // Frame 1: the call, with a buffer of that room.
 pub(crate) fn call(register: Register, payload: &[u8], page: &mut Page, at: usize) -> Answered {
@@ -18,19 +18,19 @@ pub(crate) fn call(register: Register, payload: &[u8], page: &mut Page, at: usiz
     }
     let mut buffer = page::FILLED;
     let called = register.call(&payload[2..], &mut buffer[0..room]);
-    let answer = called.answer;
+    let reply = called.reply;
     let following = called.register;
-    let end = said(answer, &buffer, page, at);
+    let end = said(reply, &buffer, page, at);
     Answered {
         register: following,
         at: end,
     }
 }
 
-// Puts what the call answered, and what it left in the buffer.
-fn said(answer: Answer, buffer: &Buffer, page: &mut Page, at: usize) -> usize {
-    let Answer::Taken(consumed, written) = answer else {
-        let end = page::refused(page, at, register::refusal_of(answer));
+// Puts what the call replied, and what it left in the buffer.
+fn said(reply: Reply, buffer: &Buffer, page: &mut Page, at: usize) -> usize {
+    let Reply::Taken(consumed, written) = reply else {
+        let end = page::refused(page, at, register::refusal_of(reply));
         return page::kept(page, end, buffer, 0);
     };
     let end = page::word(page, at, b"taken");

@@ -4,11 +4,12 @@ use crate::page;
 use crate::page::Page;
 use crate::places;
 use account::Account;
-use account::Decision;
-use account::Slot;
 use events::Event;
 use events::Life;
 use events::State;
+use filing::Decision;
+use filing::Filed;
+use filing::Slot;
 use register::Register;
 
 // Frame 5: sets a field of an account, or of a place of it, and nothing else.
@@ -126,23 +127,24 @@ fn with_counts(account: Account, progressing: usize, holding: usize) -> Account 
 
 // The place with that field set; another event keeps the amount, if it has one.
 fn slot_with(slot: Slot, field: u8, value: u32) -> Slot {
+    let filed = slot.filed;
     let event = slot.event;
     match field {
-        4 => with_heading(slot, value, slot.second),
-        5 => with_heading(slot, slot.transaction, value),
+        4 => with_heading(slot, value, filed),
+        5 => with_heading(slot, slot.transaction, Filed { second: value }),
         6 => with_event(slot, Event::of(kind_of(value), event.amount())),
         7 => with_event(slot, Event::of(event.kind(), value)),
         _ => with_decision(slot, decision_of(value)),
     }
 }
 
-// The place with another transaction and second.
-fn with_heading(slot: Slot, transaction: u32, second: u32) -> Slot {
+// The place with another transaction, and something else filed.
+fn with_heading(slot: Slot, transaction: u32, filed: Filed) -> Slot {
     let event = slot.event;
     let decision = slot.decision;
     Slot {
         transaction,
-        second,
+        filed,
         event,
         decision,
     }
@@ -150,10 +152,11 @@ fn with_heading(slot: Slot, transaction: u32, second: u32) -> Slot {
 
 // The place with another event.
 fn with_event(slot: Slot, event: Event) -> Slot {
+    let filed = slot.filed;
     let decision = slot.decision;
     Slot {
         transaction: slot.transaction,
-        second: slot.second,
+        filed,
         event,
         decision,
     }
@@ -161,10 +164,11 @@ fn with_event(slot: Slot, event: Event) -> Slot {
 
 // The place with another decision.
 fn with_decision(slot: Slot, decision: Decision) -> Slot {
+    let filed = slot.filed;
     let event = slot.event;
     Slot {
         transaction: slot.transaction,
-        second: slot.second,
+        filed,
         event,
         decision,
     }

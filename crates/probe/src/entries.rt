@@ -2,10 +2,11 @@
 use crate::messages;
 use crate::page;
 use crate::page::Page;
-use account::Entry;
-use account::Told;
 use entry::EntryReading;
 use events::Event;
+use filing::Entry;
+use filing::Told;
+use filing::Verdict;
 use layout::Writing;
 
 // Frame 7: the entry reader.
@@ -40,20 +41,19 @@ fn put_line(found: Entry, account: u16, page: &mut Page, at: usize) -> usize {
 // Puts an entry, with its account.
 fn put_found(found: Entry, account: u16, page: &mut Page, at: usize) -> usize {
     let told = found.told;
+    let filed = found.filed;
     let end = page::word(page, at, b"entry");
     let end = page::field(page, end, kind_of(told));
     let end = page::field(page, end, found.transaction);
     let end = page::field(page, end, account as u32);
-    let end = page::field(page, end, found.second);
+    let end = page::field(page, end, filed.second);
     put_told(told, page, end, b' ')
 }
 
 // Puts what an entry of its kind has of event, amount, outcomes and balance, each behind a separator.
 pub(crate) fn put_told(told: Told, page: &mut Page, at: usize, separator: u8) -> usize {
     match told {
-        Told::Accepted(event, weighed) => put_with(event, weighed, page, at, separator),
-        Told::Rejected(event, weighed) => put_with(event, weighed, page, at, separator),
-        Told::Held(event, weighed) => put_with(event, weighed, page, at, separator),
+        Told::Voted(event, weighing) => put_with(event, weighing.weighed, page, at, separator),
         Told::Noted => at,
         Told::Applied(event, balance) => put_with(event, balance, page, at, separator),
         Told::Dropped(event) => page::event(page, at, separator, event),
@@ -69,11 +69,21 @@ fn put_with(event: Event, number: u32, page: &mut Page, at: usize, separator: u8
 // The kind of an entry.
 pub(crate) fn kind_of(told: Told) -> u32 {
     match told {
-        Told::Accepted(_, _) => 17,
-        Told::Rejected(_, _) => 18,
-        Told::Held(_, _) => 19,
+        Told::Voted(_, weighing) => {
+            let verdict = weighing.verdict;
+            vote_kind(verdict)
+        }
         Told::Noted => 20,
         Told::Applied(_, _) => 21,
         Told::Dropped(_) => 22,
+    }
+}
+
+// The kind of a vote.
+fn vote_kind(verdict: Verdict) -> u32 {
+    match verdict {
+        Verdict::Accepted => 17,
+        Verdict::Rejected => 18,
+        Verdict::Held => 19,
     }
 }

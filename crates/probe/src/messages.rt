@@ -2,6 +2,7 @@
 use crate::page;
 use crate::page::Page;
 use events::Event;
+use filing::Filed;
 use layout::Writing;
 use message::Heading;
 use message::Message;
@@ -46,10 +47,11 @@ fn put_message(message: Message, page: &mut Page, at: usize) -> usize {
 
 // Puts a message's kind, transaction, account and second.
 fn put_heading(kind: u8, heading: Heading, page: &mut Page, at: usize) -> usize {
+    let filed = heading.filed;
     let end = page::field(page, at, kind as u32);
     let end = page::field(page, end, heading.transaction);
     let end = page::field(page, end, heading.account as u32);
-    page::field(page, end, heading.second)
+    page::field(page, end, filed.second)
 }
 
 // Frame 4: the message writer, with a buffer of that room.
@@ -68,7 +70,9 @@ pub(crate) fn write(payload: &[u8], page: &mut Page, at: usize) -> usize {
     let heading = Heading {
         transaction: layout::number4(payload, 1),
         account: layout::number2(payload, 5),
-        second: layout::number4(payload, 7),
+        filed: Filed {
+            second: layout::number4(payload, 7),
+        },
     };
     let message = message_of(kind, heading, layout::number4(payload, 11));
     let mut buffer = page::FILLED;

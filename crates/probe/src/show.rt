@@ -3,7 +3,7 @@ use crate::page;
 use crate::page::Page;
 use crate::places;
 use account::Account;
-use account::Slot;
+use filing::Slot;
 
 // Frame 6: life, balance and counts of an account, and each place that is not blank.
 pub(crate) fn stored(account: Account, page: &mut Page, at: usize) -> usize {
@@ -35,16 +35,17 @@ fn put_places(account: Account, page: &mut Page, at: usize) -> usize {
 
 // Puts a place that is not blank.
 fn put_place(slot: Slot, place: usize, page: &mut Page, at: usize) -> usize {
-    if places::is_blank(slot) {
+    if slot.is_blank() {
         return at;
     }
+    let filed = slot.filed;
     let event = slot.event;
     let decision = slot.decision;
     let end = page::count(page, at, place);
     let end = page::part(page, end, b'=', slot.transaction);
-    let end = page::part(page, end, b':', slot.second);
+    let end = page::part(page, end, b':', filed.second);
     let end = page::event(page, end, b':', event);
-    if places::is_undecided(decision) {
+    if decision.is_undecided() {
         page::word(page, end, b":u")
     } else {
         page::word(page, end, b":c")

@@ -7,10 +7,11 @@ use crate::page::Page;
 use crate::places;
 use account::Account;
 use account::Answer;
-use account::Called;
-use account::Entries;
-use account::Entry;
+use account::Stepped;
 use events::Event;
+use filing::Entries;
+use filing::Entry;
+use filing::Filed;
 use register::Register;
 
 // Frame 68: one step of an account; the register goes on with the account that the step handed back.
@@ -24,10 +25,10 @@ pub(crate) fn step(register: Register, payload: &[u8], page: &mut Page, at: usiz
         return Answered::unknown(register, page, at);
     }
     let named = places::account_of(register, number);
-    let called = stepped(named, kind, payload);
-    let answer = called.answer;
-    let following = called.account;
-    let entries = called.entries;
+    let stepped = step_of(named, kind, payload);
+    let answer = stepped.answer;
+    let following = stepped.account;
+    let entries = stepped.entries;
     let end = put_answer(answer, page, at);
     let end = put_entries(entries, page, end);
     Answered {
@@ -37,14 +38,16 @@ pub(crate) fn step(register: Register, payload: &[u8], page: &mut Page, at: usiz
 }
 
 // The step of that kind.
-fn stepped(account: Account, kind: u8, payload: &[u8]) -> Called {
+fn step_of(account: Account, kind: u8, payload: &[u8]) -> Stepped {
     let transaction = layout::number4(payload, 3);
-    let second = layout::number4(payload, 7);
+    let filed = Filed {
+        second: layout::number4(payload, 7),
+    };
     let amount = layout::number4(payload, 11);
     match kind {
-        5 => account.commit(transaction, second),
-        6 => account.abort(transaction, second),
-        _ => account.request(transaction, second, Event::of(kind, amount)),
+        5 => account.commit(transaction, filed),
+        6 => account.abort(transaction, filed),
+        _ => account.request(transaction, filed, Event::of(kind, amount)),
     }
 }
 
@@ -77,12 +80,13 @@ fn put_entries(entries: Entries, page: &mut Page, at: usize) -> usize {
 // Puts an entry that is not blank.
 fn put_entry(entry: Entry, place: usize, page: &mut Page, at: usize) -> usize {
     let told = entry.told;
-    if (entry.transaction == 0) & (entry.second == 0) & (entries::kind_of(told) == 20) {
+    let filed = entry.filed;
+    if (entry.transaction == 0) & filed.is_blank() & (entries::kind_of(told) == 20) {
         return at;
     }
     let end = page::count(page, at, place);
     let end = page::part(page, end, b'=', entries::kind_of(told));
     let end = page::part(page, end, b':', entry.transaction);
-    let end = page::part(page, end, b':', entry.second);
+    let end = page::part(page, end, b':', filed.second);
     entries::put_told(told, page, end, b':')
 }

@@ -1,7 +1,7 @@
 -- What the code of a run has at hand is a turn: of a refusal of the reader or of the room, and of a message that is sent to the account that it names. The parts of the two slices that
 -- the code looks at are what is left of them.
 -- Assumes nothing.
-use Prim.Native.Nat.{ℕ, _-_, _≤_, _<_}
+use Prim.Native.Nat.{ℕ, _+_, _-_, _≤_, _<_, _^_}
 use mathlib.Core.Path.{_≡_, refl, sym, _∙_, ap}
 use mathlib.Core.Logic.{_⊎_, inl, inr}
 use mathlib.Core.Bool.{Bool, true, false, cond}
@@ -38,14 +38,15 @@ use Rattle.register.specs.declared.runs.Ran.{Ran}
 use Rattle.register.specs.declared.runs.Passed.{Passed}
 use Rattle.register.specs.Register.{accountAt, withAccount, ruleMessage, sentIn, sentAs, sentBy}
 use Rattle.register.specs.Call.{Result, refusedWith, wroteOf, afterMessage, afterReading, calledBy}
-use Rattle.register.specs.Helpers.{readingNumber, roomed, filedOf, Fitting}
-use Rattle.register.specs.Run.{lengthAt, passedOf}
+use Rattle.register.specs.Helpers.{readingNumber, roomed, filedOf, Fitting, Countable}
+use Rattle.register.specs.Run.{lengthAt, passedOf, one, added}
 use Rattle.register.proofs.Suits.{Suits}
 use Rattle.register.proofs.ReadAs.{read-as, account-read}
 use Rattle.register.proofs.Standing.{reading-tells}
 use Rattle.register.proofs.Passed.{passed-skips}
 use Rattle.register.proofs.Sending.{Sending, refused, taken, sending, step-bytes}
-use Rattle.register.proofs.Underway.{Turn}
+use Rattle.register.proofs.Underway as underway
+use Rattle.register.proofs.Underway.{Underway, Turn, countable, less-left}
 
 -- what was read, where there is room: the reader's message, with room for a call
 roomed-message : (read : Reading) (room : ℕ) (m : Message) (consumed : ℕ) → roomed read room ≡ Reading′.Message m consumed → (read ≡ Reading′.Message m consumed) × (longestCall ≤ room)
@@ -101,6 +102,12 @@ goes-on : {R : Rule State Event ℕ} {m : Message} (r : Register) (buffer : List
     → passedOf (wroteOf r buffer (headingOf m .account) whole sent .reply) whole .stops ≡ false
 goes-on r buffer whole (refused n high) = rw (passed-skips n whole high)
 goes-on r buffer whole (taken free) = refl
+
+-- a message that the run goes on from
+pub record Goes (R : Rule State Event ℕ) (k : Suits R) (bytes buffer : List ℕ) (ran : Ran) (passed : Passed) (next : Register) (left : List ℕ) : Type 0 where
+  pub counts : length bytes < 2 ^ 64 → length buffer < 2 ^ 64 → Countable ran passed
+  pub less : length bytes - (ran .consumed + passed .consumed) < length bytes - ran .consumed
+  pub again : Underway R k bytes buffer next (added ran (one passed)) left
 
 module _ (R : Rule State Event ℕ) (k : Suits R) (bytes : List ℕ) (r : Register) (ran : Ran) (entries : List ℕ) where
   -- what is left of the messages and of the entry buffer,
@@ -175,40 +182,55 @@ module _ (R : Rule State Event ℕ) (k : Suits R) (bytes : List ℕ) (r : Regist
               entries′ = rw (part, s) (omega (arith, message-is .1, step-bytes R k (accountAt r (headingOf m .account)) (ruleMessage m) (headingOf m .account)));
             }
 
-        -- the run goes on behind a message that was read and had room
-        pub turn-on : (reply : Reply) (passed : Passed) → reply ≡ filedOf (stepped .answer) (stepped .entries) (headingOf m .account) whole freePart .reply → passed ≡ passedOf reply whole
-            → passed .stops ≡ false
-        unfolding sentBy
-        turn-on reply passed a p =
-            let i = headingOf m .account in
-            let sent : sentBy R r m ≡ sentIn r i stepped = rw (le-ltb 15 i (omega (arith, named-low)), s) in
-            let replies : reply ≡ wroteOf r free i whole (sentBy R r m) .reply =
-            a ∙ rw (part-to-end entries (ran .written), sent) (filed-reply r free i whole (stepped .account) (stepped .entries) (stepped .answer)) in
-            rw (p, replies) (goes-on r free whole (sending R r m))
+        module _ (reply : Reply) (passed : Passed) (a : reply ≡ filedOf (stepped .answer) (stepped .entries) (headingOf m .account) whole freePart .reply) (p : passed ≡ passedOf reply whole) where
+          abbrev written : Result
+          written = wrote r free (headingOf m .account) whole (stepped .account) (stepped .entries) (stepped .answer)
 
-        pub turn-message : (reply : Reply) (passed : Passed) (last : List ℕ) (next : Register)
-            → reply ≡ filedOf (stepped .answer) (stepped .entries) (headingOf m .account) whole freePart .reply
-            → last ≡ filedOf (stepped .answer) (stepped .entries) (headingOf m .account) whole freePart .buffer
-            → passed ≡ passedOf reply whole
-            → ((passed .refused ≡ 0) × (next ≡ withAccount r (headingOf m .account) (stepped .account))) ⊎ ((passed .refused ≡ 0 → ⊥) × (next ≡ r))
-            → Turn R k bytes r ran entries next passed (putMid (ran .written) (length entries - ran .written) entries last)
-        turn-message reply passed last next a b p came =
-            let i = headingOf m .account in
-            let part = part-to-end entries (ran .written) in
-            let replies : reply ≡ wrote r free i whole (stepped .account) (stepped .entries) (stepped .answer) .reply = a ∙ rw part (filed-reply r free i whole (stepped .account) (stepped .entries) (stepped .answer)) in
-            let comes′ : passed ≡ passedOf (wrote r free i whole (stepped .account) (stepped .entries) (stepped .answer) .reply) whole = p ∙ ap (λ (x : Reply). passedOf x whole) replies in
-            record {
-              comes = comes′ ∙ rw (call-is, whole-is);
-              follows =
-                  filed-register r free i whole (stepped .account) (stepped .entries) (stepped .answer) whole next (rw comes′ at came) ∙ rw call-is;
-              leaves =
-                  rw (
-                    post-is (ran .written) (length entries) entries (look .room),
-                    drop-length entries,
-                    append-nil,
-                    b,
-                    part,
-                    filed-buffer r free i whole (stepped .account) (stepped .entries) (stepped .answer),
-                    call-is,
-                  );
-            }
+          comes-is : passed ≡ passedOf (written .reply) whole
+          comes-is =
+              let i = headingOf m .account in
+              let replies : reply ≡ written .reply = a ∙ rw (part-to-end entries (ran .written)) (filed-reply r free i whole (stepped .account) (stepped .entries) (stepped .answer)) in
+              p ∙ ap (λ (x : Reply). passedOf x whole) replies
+
+          -- the run goes on behind a message that was read and had room
+          turn-on : passed .stops ≡ false
+          unfolding sentBy
+          turn-on =
+              let i = headingOf m .account in
+              let sent : sentBy R r m ≡ sentIn r i stepped = rw (le-ltb 15 i (omega (arith, named-low)), s) in
+              comes-on (rw (← sent) (goes-on r free whole (sending R r m)))
+            where
+              comes-on : passedOf (written .reply) whole .stops ≡ false → passed .stops ≡ false
+              comes-on h = ap (λ (x : Passed). x .stops) comes-is ∙ h
+
+          module _ (last : List ℕ) (next : Register) (b : last ≡ filedOf (stepped .answer) (stepped .entries) (headingOf m .account) whole freePart .buffer)
+              (came : ((passed .refused ≡ 0) × (next ≡ withAccount r (headingOf m .account) (stepped .account))) ⊎ ((passed .refused ≡ 0 → ⊥) × (next ≡ r))) where
+            abbrev left : List ℕ
+            left = putMid (ran .written) (length entries - ran .written) entries last
+
+            turn-message : Turn R k bytes r ran entries next passed left
+            turn-message =
+                let i = headingOf m .account in
+                record {
+                  comes = comes-is ∙ rw (call-is, whole-is);
+                  follows = filed-register r free i whole (stepped .account) (stepped .entries) (stepped .answer) whole next (rw comes-is at came) ∙ rw call-is;
+                  leaves =
+                      rw (
+                        post-is (ran .written) (length entries) entries (look .room),
+                        drop-length entries,
+                        append-nil,
+                        b,
+                        part-to-end entries (ran .written),
+                        filed-buffer r free i whole (stepped .account) (stepped .entries) (stepped .answer),
+                        call-is,
+                      );
+                }
+
+            -- so the counts fit, less is left, and the run is under way
+            pub message-goes : (buffer : List ℕ) → Underway R k bytes buffer r ran entries → ran .consumed < length bytes → Goes R k bytes buffer ran passed next left
+            message-goes buffer u more =
+                record {
+                  counts = countable R k bytes buffer r ran entries next passed left u turn-message more;
+                  less = less-left R k bytes buffer r ran entries next passed left u turn-message more turn-on;
+                  again = underway.goes-on R k bytes buffer r ran entries next passed left u turn-message more turn-on;
+                }

@@ -99,8 +99,7 @@ impl Register {
         let Answer::Taken = answer else {
             return self.unchanged(numbers::refusal_of_step(answer));
         };
-        let entries = sent.entries;
-        let writing = entry::write_entries(entries, numbers::account_of(message), buffer);
+        let writing = entry::write_entries(sent.entries, numbers::account_of(message), buffer);
         let Writing::Written(written) = writing else {
             return self.unchanged(4);
         };

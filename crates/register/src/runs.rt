@@ -63,8 +63,13 @@ pub fn run(messages: &[u8], entries: &mut [u8]) -> Ran
                 let account = accounts[at];
                 let stepped = account.request(heading.transaction, filed, event);
                 let answer = stepped.answer;
-                let made = stepped.entries;
-                let reply = file(answer, made, heading.account, whole, &mut entries[to..]);
+                let reply = file(
+                    answer,
+                    stepped.entries,
+                    heading.account,
+                    whole,
+                    &mut entries[to..],
+                );
                 let passed = passed_by(reply, whole);
                 if passed.refused == 0 {
                     let next = stepped.account;
@@ -78,8 +83,13 @@ pub fn run(messages: &[u8], entries: &mut [u8]) -> Ran
                 let account = accounts[at];
                 let stepped = account.commit(heading.transaction, filed);
                 let answer = stepped.answer;
-                let made = stepped.entries;
-                let reply = file(answer, made, heading.account, whole, &mut entries[to..]);
+                let reply = file(
+                    answer,
+                    stepped.entries,
+                    heading.account,
+                    whole,
+                    &mut entries[to..],
+                );
                 let passed = passed_by(reply, whole);
                 if passed.refused == 0 {
                     let next = stepped.account;
@@ -93,8 +103,13 @@ pub fn run(messages: &[u8], entries: &mut [u8]) -> Ran
                 let account = accounts[at];
                 let stepped = account.abort(heading.transaction, filed);
                 let answer = stepped.answer;
-                let made = stepped.entries;
-                let reply = file(answer, made, heading.account, whole, &mut entries[to..]);
+                let reply = file(
+                    answer,
+                    stepped.entries,
+                    heading.account,
+                    whole,
+                    &mut entries[to..],
+                );
                 let passed = passed_by(reply, whole);
                 if passed.refused == 0 {
                     let next = stepped.account;

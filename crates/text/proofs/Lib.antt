@@ -4,10 +4,12 @@ pub mod Decimals
 pub mod Vectors
 pub mod Printed
 pub mod Pieces
+pub mod Turning
 pub mod Steps
 pub mod Prints
 pub mod Quoted
 pub mod Samples
-pub mod SameCalls
 pub mod EntryLines
+pub mod TurnCalls
+pub mod Beside
 pub mod OutputCalls

@@ -9,19 +9,19 @@ use mathlib.Core.List.{List, [], _∷_, _++_}
 use borrow.Author.Tests.{lt-ltb, le-ltb}
 use lib.Dec.{ltb, lit<, lit≤}
 use lib.ListN.{length, length-append}
-use lib.Seq.{sets}
 use Rattle.events.specs.declared.Event.{Event}
 use Rattle.events.specs.declared.Event.the-variants.{Open, Withdraw, Deposit, Close}
-use Rattle.account.specs.declared.Told.{Told}
-use Rattle.account.specs.declared.Told.the-variants.{Accepted, Rejected, Held, Noted, Applied, Dropped}
-use Rattle.account.specs.declared.Entry.{Entry}
-use Rattle.layout.specs.declared.Writing.the-variants as Writing′
-use Rattle.layout.specs.Number.{bytesOf}
 use Rattle.events.specs.Kinds.{amountOf}
+use Rattle.filing.specs.declared.Verdict.{Verdict}
+use Rattle.filing.specs.declared.Verdict.the-variants.{Accepted, Rejected, Held}
+use Rattle.filing.specs.declared.Told.{Told}
+use Rattle.filing.specs.declared.Told.the-variants.{Voted, Noted, Applied, Dropped}
+use Rattle.filing.specs.declared.Entry.{Entry}
+use Rattle.layout.specs.declared.Writing.the-variants as Writing′
 use Rattle.layout.specs.Answers.{wroteOver, refusedWith}
 use Rattle.layout.proofs.Stores.{laid-over}
-use Rattle.text.specs.Text.{decimalIn, decimal, nameOf, eventName, thenFields, spaced, lineOf, longestLine, writeLineOf, Put}
-use Rattle.text.proofs.Texts.{put-append, put-byte}
+use Rattle.text.specs.Text.{decimalIn, decimal, voteName, nameOf, eventName, headingFields, thenFields, spaced, lineOf, longestLine, writeLineOf, Put}
+use Rattle.text.proofs.Texts.{put-append}
 
 -- ---- lengths
 
@@ -48,10 +48,13 @@ digits-length (suc k) (suc places) number h = go (ltb number 10) (digits-length 
     go true h = omega arith
     go false h = rw length-append (omega arith)
 
+vote-length : (verdict : Verdict) → length (voteName verdict) ≤ 8
+vote-length Accepted = lit≤ tt
+vote-length Rejected = lit≤ tt
+vote-length Held = lit≤ tt
+
 pub name-length : (told : Told) → length (nameOf told) ≤ 8
-name-length (Accepted e n) = lit≤ tt
-name-length (Rejected e n) = lit≤ tt
-name-length (Held e n) = lit≤ tt
+name-length (Voted e weighing) = vote-length (weighing .verdict)
 name-length Noted = lit≤ tt
 name-length (Applied e n) = lit≤ tt
 name-length (Dropped e) = lit≤ tt
@@ -77,9 +80,7 @@ number-field : (number : ℕ) → length (spaced (decimal number ∷ [])) ≤ 1 
 number-field number = spaced-length (decimal number) [] 10 0 (places-length 10 number) (lit≤ tt)
 
 then-length : (told : Told) → length (spaced (thenFields told)) ≤ 31
-then-length (Accepted e n) = event-fields e (decimal n ∷ []) 11 (number-field n)
-then-length (Rejected e n) = event-fields e (decimal n ∷ []) 11 (number-field n)
-then-length (Held e n) = event-fields e (decimal n ∷ []) 11 (number-field n)
+then-length (Voted e weighing) = event-fields e (decimal (weighing .weighed) ∷ []) 11 (number-field (weighing .weighed))
 then-length Noted = lit≤ tt
 then-length (Applied e n) = event-fields e (decimal n ∷ []) 11 (number-field n)
 then-length (Dropped e) = le-trans (event-fields e [] 0 (lit≤ tt)) (lit≤ tt)
@@ -91,7 +92,7 @@ line-length account e h =
     let then = then-length (e .told) in
     let t = places-length 10 (e .transaction) in
     let n : length (decimal account) ≤ 5 = digits-length 4 10 account (omega arith) in
-    let s = places-length 10 (e .second) in
+    let s = places-length 10 (e .filed .second) in
     simp length-append (omega arith)
 
 -- ---- the ways out
@@ -101,20 +102,19 @@ unfolding writeLineOf
 write-small e account l h = rw (lt-ltb (length l) longestLine h)
 
 -- the pieces of a line are the line
-pub line-put : (e : Entry) (account at a b d : ℕ) (l l₁ l₂ l₃ l₄ : List ℕ) → account < 65536
+pub line-put : (e : Entry) (account at a b d next : ℕ) (l l₁ l₂ l₃ l₄ : List ℕ) → account < 65536
     → Put (nameOf (e .told)) at 8 l a l₁
-    → Put (spaced (decimal (e .transaction) ∷ decimal account ∷ decimal (e .second) ∷ [])) a 33 l₁ b l₂
+    → Put (spaced (headingFields (e .transaction) account (e .filed))) a 33 l₁ b l₂
     → Put (spaced (thenFields (e .told))) b 31 l₂ d l₃
-    → l₄ ≡ sets l₃ d (bytesOf 1 10)
-    → Put (lineOf account e) at longestLine l (d + 1) l₄
+    → Put (10 ∷ []) d 1 l₃ next l₄
+    → Put (lineOf account e) at longestLine l next l₄
 unfolding lineOf
-line-put e account at a b d l l₁ l₂ l₃ l₄ h p q r n =
-    let heading = spaced (decimal (e .transaction) ∷ decimal account ∷ decimal (e .second) ∷ []) in
+line-put e account at a b d next l l₁ l₂ l₃ l₄ h p q r n =
+    let heading = spaced (headingFields (e .transaction) account (e .filed)) in
     let then = spaced (thenFields (e .told)) in
-    let whole : Put (lineOf account e) at (8 + (33 + (31 + 1))) l (d + 1) l₄ =
-    put-append (nameOf (e .told)) (heading ++ (then ++ (10 ∷ []))) at 8 (33 + (31 + 1)) a (d + 1) l l₁ l₄ p
-    (put-append heading (then ++ (10 ∷ [])) a 33 (31 + 1) b (d + 1) l₁ l₂ l₄ q
-    (put-append then (10 ∷ []) b 31 1 d (d + 1) l₂ l₃ l₄ r (put-byte 10 d l₃ l₄ (lit< tt) n))) in
+    let whole : Put (lineOf account e) at (8 + (33 + (31 + 1))) l next l₄ =
+    put-append (nameOf (e .told)) (heading ++ (then ++ (10 ∷ []))) at 8 (33 + (31 + 1)) a next l l₁ l₄ p
+    (put-append heading (then ++ (10 ∷ [])) a 33 (31 + 1) b next l₁ l₂ l₄ q (put-append then (10 ∷ []) b 31 1 d next l₂ l₃ l₄ r n)) in
     record { place = whole .place; within = omega (arith, whole .place, line-length account e h); stored = whole .stored }
 
 -- and where it has room it is what the writer gives

@@ -1,29 +1,28 @@
 -- The pieces of the program's text, put one behind the other: the beginning, a refusal, the last line, the lines of a call's entries. The lines are
--- put in a loop: what is put, with the lines of the bytes that are left, is the whole.
+-- put in a loop: what is put are the lines of the entries passed.
 -- Assumes nothing.
-use Prim.Native.Nat.{ℕ, zero, suc, _+_, _*_, _-_, _≤_, _<_, min}
-use native.Mathlib.Nat.{zero-add, min-eq-left, min-eq-right}
+use Prim.Native.Nat.{ℕ, _+_, _*_, _≤_, _<_, min}
+use native.Mathlib.Nat.{zero-add}
+use native.Mathlib.Numerals.{add-one}
 use native.Mathlib.Omega.{arith}
 use mathlib.Core.Path.{_≡_, refl, sym, _∙_}
-use mathlib.Core.Bool.{Bool, true, false}
 use mathlib.Core.List.{List, [], _∷_, _++_, append-nil, append-assoc}
-use borrow.Author.Tests.{lt-ltb, le-ltb, ltb-true, ltb-false}
-use lib.Dec.{ltb}
-use lib.ListN.{length, take, drop, length-append, length-drop}
-use lib.Seq.{sets, drop-drop, take-all, take-length, take-append-seam, drop-append-seam}
-use Rattle.account.specs.declared.Entry.{Entry}
-use Rattle.entry.specs.declared.EntryReading.the-variants.{Found, Nothing}
-use Rattle.entry.specs.Answers.{readOf}
+use borrow.Author.Tests.{lt-ltb, le-ltb}
+use lib.ListN.{length, getD, take, drop, length-append}
+use lib.Seq.{sets, take-suc, take-append-seam, drop-append-seam}
+use Rattle.filing.specs.declared.Entry.{Entry}
+use Rattle.filing.specs.declared.Entries.{Entries}
 use Rattle.layout.proofs.Stores.{sets-more, laid-over}
-use Rattle.entry.proofs.Inverse.{taken-of}
+use Rattle.entry.specs.Bytes.{listOf}
+use Rattle.entry.proofs.Stored.{noEntry, all-places}
 use Rattle.register.specs.declared.Register.{Register}
-use Rattle.register.specs.Register.{freshRegister}
+use Rattle.register.specs.First.{freshRegister}
 use Rattle.text.specs.declared.program.Served.{Served}
-use Rattle.text.specs.Text.{decimal, spaced, lineOf, longestLine, Put}
+use Rattle.text.specs.Text.{decimal, spaced, lineOf, linesOf, longestLine, Put}
 use Rattle.text.specs.Quoted.{quoted}
-use Rattle.text.specs.Output.{longestInput, firstLine, tooLong, refusedLine, lastLine, linesFrom, mostLines}
+use Rattle.text.specs.Output.{longestInput, firstLine, tooLong, refusedLine, lastLine}
 use Rattle.text.specs.Program.{longestText, beginText, beginOf, finishText, TextAtTheBeginning}
-use Rattle.text.proofs.Texts.{put-nothing, put-append, put-room, put-fields}
+use Rattle.text.proofs.Texts.{put-nothing, put-append, put-room, spaced-append}
 
 -- text from the beginning of a buffer on ends at its length
 pub put-length : (text : List ℕ) (most next : ℕ) (l l₁ : List ℕ) → Put text 0 most l next l₁ → next ≡ length text
@@ -55,22 +54,30 @@ module _ (input l l₁ : List ℕ) (register : Register) (fresh : register ≡ f
       let n = put-length (quoted "register 1\n" ++ quoted "too long\n") 20 second l l₂ q in
       rw (lt-ltb longestInput (length input) h) (rw (fresh, n), q)
 
--- ---- a refusal, and the last line
+-- ---- a refusal, and the last line: letters, numbers, and the newline
 
-pub refusal-put : (number a b d : ℕ) (l l₁ l₂ l₃ : List ℕ) → Put (quoted "refused") 0 7 l a l₁ → Put (spaced (decimal number ∷ [])) a 11 l₁ b l₂
-    → Put (quoted "\n") b 1 l₂ d l₃ → Put (refusedLine number) 0 19 l d l₃
-unfolding refusedLine
-refusal-put number a b d l l₁ l₂ l₃ p q r =
-    let field = spaced (decimal number ∷ []) in
-    put-append (quoted "refused") (field ++ quoted "\n") 0 7 12 a d l l₁ l₃ p (put-append field (quoted "\n") a 11 1 b d l₁ l₂ l₃ q r)
+-- one number more
+named-more : (letters : List ℕ) (xs ys : List (List ℕ)) (m n a b : ℕ) (l l₁ l₂ : List ℕ) → Put (letters ++ spaced xs) 0 m l a l₁ → Put (spaced ys) a n l₁ b l₂
+    → Put (letters ++ spaced (xs ++ ys)) 0 (m + n) l b l₂
+named-more letters xs ys m n a b l l₁ l₂ p q =
+    rw (spaced-append xs ys, ← append-assoc letters (spaced xs) (spaced ys)) (put-append (letters ++ spaced xs) (spaced ys) 0 m n a b l l₁ l₂ p q)
 
-pub last-put : (met refused a b c d : ℕ) (l l₁ l₂ l₃ l₄ : List ℕ) → Put (quoted "end") 0 3 l a l₁ → Put (spaced (decimal met ∷ [])) a 11 l₁ b l₂
-    → Put (spaced (decimal refused ∷ [])) b 11 l₂ c l₃ → Put (quoted "\n") c 1 l₃ d l₄ → Put (lastLine met refused) 0 26 l d l₄
-unfolding lastLine
-last-put met refused a b c d l l₁ l₂ l₃ l₄ p q r s =
-    let fields = spaced (decimal met ∷ decimal refused ∷ []) in
-    put-append (quoted "end") (fields ++ quoted "\n") 0 3 23 a d l l₁ l₄ p
-    (put-append fields (quoted "\n") a 22 1 c d l₁ l₃ l₄ (put-fields (decimal met ∷ []) (decimal refused ∷ []) a 11 11 b c l₁ l₂ l₃ q r) s)
+named-ended : (letters : List ℕ) (xs : List (List ℕ)) (m a b : ℕ) (l l₁ l₂ : List ℕ) → Put (letters ++ spaced xs) 0 m l a l₁ → Put (10 ∷ []) a 1 l₁ b l₂
+    → Put (letters ++ (spaced xs ++ (10 ∷ []))) 0 (m + 1) l b l₂
+named-ended letters xs m a b l l₁ l₂ p q = rw (← append-assoc letters (spaced xs) (10 ∷ [])) (put-append (letters ++ spaced xs) (10 ∷ []) 0 m 1 a b l l₁ l₂ p q)
+
+pub refusal-put : (number a b : ℕ) (l l₁ l₂ : List ℕ) → Put (quoted "refused" ++ spaced (decimal number ∷ [])) 0 18 l a l₁ → Put (10 ∷ []) a 1 l₁ b l₂
+    → Put (refusedLine number) 0 longestText l b l₂
+unfolding refusedLine quoted
+refusal-put number a b l l₁ l₂ p q =
+    put-room (refusedLine number) 0 19 longestText b l l₂ (omega arith) (named-ended (quoted "refused") (decimal number ∷ []) 18 a b l l₁ l₂ p q)
+
+pub last-put : (met refused a b d : ℕ) (l l₁ l₂ l₃ : List ℕ) → Put (quoted "end" ++ spaced (decimal met ∷ [])) 0 14 l a l₁
+    → Put (spaced (decimal refused ∷ [])) a 11 l₁ b l₂ → Put (10 ∷ []) b 1 l₂ d l₃ → Put (lastLine met refused) 0 26 l d l₃
+unfolding lastLine quoted
+last-put met refused a b d l l₁ l₂ l₃ p q r =
+    named-ended (quoted "end") (decimal met ∷ decimal refused ∷ []) 25 b d l l₂ l₃
+    (named-more (quoted "end") (decimal met ∷ []) (decimal refused ∷ []) 14 11 a b l l₁ l₂ p q) r
 
 module _ (s : Served) (input : List ℕ) where
   pub finishes : (next : ℕ) (l l₁ : List ℕ) → length input ≤ longestInput → Put (lastLine (s .met) (s .refused)) 0 26 l next l₁ → Put (finishText s input) 0 26 l next l₁
@@ -81,72 +88,49 @@ module _ (s : Served) (input : List ℕ) where
 
 -- ---- the lines of a call
 
--- after i entries: where the next entry starts, where the next line goes, and what is put
-pub record Lined (entries before after : List ℕ) (at from i : ℕ) : Type 0 where
-  pub count : i ≤ 17
-  pub within : from ≤ length entries
-  pub room : at ≤ 68 * i
-  pub size : length after ≡ length before
-  pub done : List ℕ
-  pub place : at ≡ length done
-  pub stored : after ≡ sets before 0 done
-  pub whole : linesFrom 17 entries ≡ done ++ linesFrom (17 - i) (drop from entries)
-
-pub lined-start : (entries before : List ℕ) → Lined entries before before 0 0 0
-lined-start entries before =
-    record { count = omega arith; within = omega arith; room = omega arith; size = refl; done = []; place = refl; stored = refl; whole = refl }
+lines-append : (account : ℕ) (xs ys : List Entry) → linesOf account (xs ++ ys) ≡ linesOf account xs ++ linesOf account ys
+unfolding linesOf
+lines-append account [] ys = refl
+lines-append account (x ∷ xs) ys = rw (append-assoc, lines-append account xs ys)
 
 -- one line more
-pub lines-more : (most : ℕ) (bytes : List ℕ) (e : Entry) (account whole : ℕ) → readOf bytes ≡ Found e account whole
-    → linesFrom (suc most) bytes ≡ lineOf account e ++ linesFrom most (drop whole bytes)
-unfolding linesFrom
-lines-more most bytes e account whole q = rw q
+lines-more : (account : ℕ) (places : List Entry) (i : ℕ) → i < length places
+    → linesOf account (take (i + 1) places) ≡ linesOf account (take i places) ++ lineOf account (getD places i noEntry)
+unfolding linesOf
+lines-more account places i h = rw (add-one, take-suc places i noEntry h, lines-append, append-nil)
 
-pub lines-none : (most : ℕ) (bytes : List ℕ) → readOf bytes ≡ Nothing → linesFrom most bytes ≡ []
-unfolding linesFrom
-lines-none zero bytes q = refl
-lines-none (suc most) bytes q = rw q
+-- after i of so many entries: where the next line goes, and what is put
+pub record Lined (places : List Entry) (account count : ℕ) (before after : List ℕ) (at i : ℕ) : Type 0 where
+  pub passed : i ≤ count
+  pub room : at ≤ 68 * i
+  pub size : length after ≡ length before
+  pub place : at ≡ length (linesOf account (take i places))
+  pub stored : after ≡ sets before 0 (linesOf account (take i places))
 
--- an entry that is read is there
-pub read-within : (bytes : List ℕ) (e : Entry) (account whole : ℕ) → readOf bytes ≡ Found e account whole → whole ≤ length bytes
-read-within bytes e account whole q = let t = taken-of bytes account e whole q in rw (t .length′) at (t .enough)
+pub lined-start : (places : List Entry) (account count : ℕ) (before : List ℕ) → Lined places account count before before 0 0
+unfolding linesOf
+lined-start places account count before = record { passed = omega arith; room = omega arith; size = refl; place = refl; stored = refl }
 
-module _ (entries before after : List ℕ) (at from i : ℕ) (u : Lined entries before after at from i) where
-  done-put : linesFrom 17 entries ≡ u .done → Put (linesFrom 17 entries) 0 longestText before at after
-  done-put e = rw e (record { place = u .place ∙ sym (zero-add (length (u .done))); within = omega (arith, u .room, u .count); stored = u .stored })
+module _ (places : List Entry) (account count : ℕ) (before after : List ℕ) (at i : ℕ) (u : Lined places account count before after at i) where
+  pub lined-more : (next : ℕ) (after′ : List ℕ) → i < count → i < length places → Put (lineOf account (getD places i noEntry)) at longestLine after next after′
+      → length after′ ≡ length after → Lined places account count before after′ next (i + 1)
+  lined-more next after′ h there p kept =
+      let done = linesOf account (take i places) in
+      let line = lineOf account (getD places i noEntry) in
+      let more = lines-more account places i there in
+      let n : next ≡ length (done ++ line) = rw length-append (omega (arith, u .place, p .place)) in
+      record {
+        passed = omega arith;
+        room = omega (arith, p .within, u .room);
+        size = kept ∙ u .size;
+        place = rw more n;
+        stored = rw more (sets-more done line before after after′ 0 at (sym (u .place)) (u .stored) (rw (sym (zero-add at)) at (p .stored)));
+      }
 
-  pub lined-none : readOf (drop from entries) ≡ Nothing → Put (linesFrom mostLines entries) 0 longestText before at after
-  lined-none q = done-put (u .whole ∙ rw (lines-none (17 - i) (drop from entries) q) (append-nil (u .done)))
-
-  pub lined-all : 17 ≤ i → Put (linesFrom mostLines entries) 0 longestText before at after
-  unfolding linesFrom
-  lined-all h = let none : 17 - i ≡ 0 = omega arith in done-put (u .whole ∙ rw none (append-nil (u .done)))
-
-  module _ (e : Entry) (account whole next : ℕ) (after′ : List ℕ) (h : i < 17) (q : readOf (drop from entries) ≡ Found e account whole)
-      (p : Put (lineOf account e) at longestLine after next after′) (kept : length after′ ≡ length after) where
-    pub from-within : from + whole ≤ length entries
-    from-within = omega (arith, read-within (drop from entries) e account whole q, length-drop from entries, u .within)
-
-    pub lined-more : Lined entries before after′ next (from + whole) (i + 1)
-    lined-more =
-        let line = lineOf account e in
-        let left : 17 - i ≡ suc (17 - (i + 1)) = omega arith in
-        let n : next ≡ length (u .done ++ line) = rw length-append (omega (arith, u .place, p .place)) in
-        record {
-          count = omega arith;
-          within = from-within;
-          room = omega (arith, p .within, u .room);
-          size = kept ∙ u .size;
-          done = u .done ++ line;
-          place = n;
-          stored = sets-more (u .done) line before after after′ 0 at (sym (u .place)) (u .stored) (rw (sym (zero-add at)) at (p .stored));
-          whole = u .whole ∙ rw (left, lines-more (17 - (i + 1)) (drop from entries) e account whole q, drop-drop whole from entries) (sym (append-assoc (u .done) line (linesFrom (17 - (i + 1)) (drop (from + whole) entries))));
-        }
-
--- as much of the bytes as there is
-pub take-least : (n : ℕ) (bytes : List ℕ) → take (min n (length bytes)) bytes ≡ take n bytes
-take-least n bytes = go (ltb n (length bytes)) refl
-  where
-    go : (b : Bool) → ltb n (length bytes) ≡ b → take (min n (length bytes)) bytes ≡ take n bytes
-    go true q = let h : n ≤ length bytes = omega (arith, ltb-true n (length bytes) q) in rw (min-eq-left h)
-    go false q = let h : length bytes ≤ n = ltb-false n (length bytes) q in rw (min-eq-right h) (take-length bytes ∙ sym (take-all n bytes h))
+pub lined-all : (entries : Entries) (account count : ℕ) (before after : List ℕ) (at i : ℕ) → length (entries .at) ≡ 17 → count ≡ min (entries .count) 17
+    → Lined (entries .at) account count before after at i → count ≤ i → Put (linesOf account (listOf entries)) 0 longestText before at after
+lined-all entries account count before after at i size c u h =
+    let all : i ≡ min (entries .count) 17 = omega (arith, u .passed) in
+    let these : take i (entries .at) ≡ listOf entries = rw all (all-places (entries .at) (entries .count) size) in
+    rw (← these)
+    (record { place = u .place ∙ sym (zero-add (length (linesOf account (take i (entries .at))))); within = omega (arith, u .room); stored = u .stored })

@@ -13,17 +13,23 @@ use lib.Seq.{take-at, drop-at}
 use Rattle.rule.specs.Lists.{every}
 use Rattle.events.specs.declared.Event.{Event}
 use Rattle.events.specs.declared.Event.the-variants.{Open, Withdraw, Deposit, Close}
-use Rattle.account.specs.declared.Told.{Told}
-use Rattle.account.specs.declared.Told.the-variants.{Accepted, Rejected, Held, Noted, Applied, Dropped}
 use Rattle.events.specs.Kinds.{amountOf}
+use Rattle.filing.specs.declared.Verdict.{Verdict}
+use Rattle.filing.specs.declared.Verdict.the-variants.{Accepted, Rejected, Held}
+use Rattle.filing.specs.declared.Told.{Told}
+use Rattle.filing.specs.declared.Told.the-variants.{Voted, Noted, Applied, Dropped}
 use Rattle.layout.specs.Answers.{wroteOver}
 use Rattle.layout.proofs.Answers.{wrote-stays, cond-stays}
-use Rattle.text.specs.Text.{decimalIn, decimal, nameOf, eventName, thenFields, spaced, lineOf, longestLine, writeLineOf}
+use Rattle.text.specs.Text.{decimalIn, decimal, voteName, nameOf, eventName, headingFields, thenFields, spaced, lineOf, linesOf, longestLine, writeLineOf}
 use Rattle.text.specs.Quoted.{quoted}
-use Rattle.text.specs.Lines.{field, eventText, headingText, LinesPlain, Ended, LinesEnd, LinesFit, LineReadBack, LineRefuses, LineStays}
+use Rattle.text.specs.Lines.{field, eventText, headingText, WordsPlain, LinesPlain, LinesTogether, Ended, LinesEnd, LinesFit, LineReadBack, LineRefuses, LineStays}
 use Rattle.entry.proofs.Booleans.{both}
 use Rattle.entry.proofs.Refusals.{refuses}
 use Rattle.text.proofs.Lines.{line-length}
+
+pub words-plain : (t a s : ℕ) → WordsPlain t a s
+unfolding quoted decimalIn
+words-plain t a s = record { opens = refl; withdraws = refl; deposits = refl; closes = refl; heading = refl; number = refl }
 
 event-text : (e : Event) (rest : List ℕ) → 32 ∷ (eventName e ++ (32 ∷ (decimal (amountOf e) ++ rest))) ≡ eventText e ++ rest
 unfolding quoted
@@ -60,6 +66,11 @@ lines-plain t a s e n =
     (ap₂ _∷_ (whole-line t a s (quoted "held") _ _ number)
     (ap₂ _∷_ (whole-line t a s (quoted "noted") _ _ refl)
     (ap₂ _∷_ (whole-line t a s (quoted "applied") _ _ number) (ap₂ _∷_ (whole-line t a s (quoted "dropped") _ _ (event-line e)) refl)))))
+
+pub lines-together : LinesTogether
+unfolding linesOf
+lines-together account [] = refl
+lines-together account (e ∷ es) = ap (λ (l : List ℕ). lineOf account e ++ l) (lines-together account es)
 
 -- ---- nothing below a space but the newline at the end
 
@@ -99,17 +110,18 @@ event-printed Close fields p = (refl, (digits-printed 10 0, p))
 
 then-printed : (told : Told) → Printed (thenFields told)
 unfolding Printed
-then-printed (Accepted e n) = event-printed e (decimal n ∷ []) (digits-printed 10 n, tt)
-then-printed (Rejected e n) = event-printed e (decimal n ∷ []) (digits-printed 10 n, tt)
-then-printed (Held e n) = event-printed e (decimal n ∷ []) (digits-printed 10 n, tt)
+then-printed (Voted e weighing) = event-printed e (decimal (weighing .weighed) ∷ []) (digits-printed 10 (weighing .weighed), tt)
 then-printed Noted = tt
 then-printed (Applied e n) = event-printed e (decimal n ∷ []) (digits-printed 10 n, tt)
 then-printed (Dropped e) = event-printed e [] tt
 
+vote-printed : (verdict : Verdict) → every (leb 32) (voteName verdict) ≡ true
+vote-printed Accepted = refl
+vote-printed Rejected = refl
+vote-printed Held = refl
+
 name-printed : (told : Told) → every (leb 32) (nameOf told) ≡ true
-name-printed (Accepted e n) = refl
-name-printed (Rejected e n) = refl
-name-printed (Held e n) = refl
+name-printed (Voted e weighing) = vote-printed (weighing .verdict)
 name-printed Noted = refl
 name-printed (Applied e n) = refl
 name-printed (Dropped e) = refl
@@ -127,11 +139,11 @@ pub lines-end : LinesEnd
 unfolding lineOf Printed
 lines-end account e =
     let name = nameOf (e .told) in
-    let first = spaced (decimal (e .transaction) ∷ decimal account ∷ decimal (e .second) ∷ []) in
+    let fields = headingFields (e .transaction) account (e .filed) in
+    let first = spaced fields in
     let then = spaced (thenFields (e .told)) in
     let p : every (leb 32) first ≡ true =
-    spaced-printed (decimal (e .transaction) ∷ decimal account ∷ decimal (e .second) ∷ [])
-    (digits-printed 10 (e .transaction), (digits-printed 10 account, (digits-printed 10 (e .second), tt))) in
+    spaced-printed fields (digits-printed 10 (e .transaction), (digits-printed 10 account, (digits-printed 10 (e .filed .second), tt))) in
     let q = every-append (leb 32) first then p (spaced-printed (thenFields (e .told)) (then-printed (e .told))) in
     let l : name ++ (first ++ (then ++ (10 ∷ []))) ≡ (name ++ (first ++ then)) ++ (10 ∷ []) = simp append-assoc in
     rw l (ended (name ++ (first ++ then)) (every-append (leb 32) name (first ++ then) (name-printed (e .told)) q))

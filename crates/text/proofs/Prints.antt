@@ -1,4 +1,4 @@
--- What the program prints, step by step, is the whole text of its input: by induction on the bound, each step by what its call does. The counts never
+-- What the program prints, step by step, is the whole text of its input: by induction on the bound, each step by what its message does. The counts never
 -- come to their bound, since there are no more messages than bytes.
 -- Assumes nothing.
 use Prim.Native.Nat.{ℕ, zero, suc, _+_, _-_, _≤_, _<_}
@@ -12,47 +12,44 @@ use lib.Dec.{leb, ltb}
 use lib.ListN.{length, take, drop, length-drop}
 use lib.Seq.{drop-drop, take-all, length-take-le}
 use Rattle.register.specs.declared.Register.{Register}
-use Rattle.register.specs.declared.Answer.{Answer}
-use Rattle.register.specs.declared.Answer.the-variants.{Refused, Taken}
+use Rattle.register.specs.declared.Reply.{Reply}
+use Rattle.register.specs.declared.Reply.the-variants.{Refused, Taken}
 use Rattle.register.specs.declared.runs.Passed.{Passed}
-use Rattle.register.specs.Call.{callOf}
-use Rattle.register.specs.Sequence.{Exchange, exchanges}
 use Rattle.register.specs.Run.{lengthAt, passedOf}
-use Rattle.register.specs.RunCalls.{refusals, refusedAmong}
+use Rattle.register.specs.RunCalls.{refusals}
 use Rattle.text.specs.declared.program.Served.{Served}
-use Rattle.text.specs.Output.{longestInput, firstLine, tooLong, lastLine, answerText, answersText, entryRoom, callsFrom, outputOf}
-use Rattle.text.specs.Program.{beginOf, calledAt, passedAt, startAfter, counted, serveText, serveOf, finishText, printedFrom, printedOf, PrintsTheOutput, PrintingEnds, OneByteMore}
+use Rattle.text.specs.Output.{longestInput, firstLine, tooLong, lastLine, Turn, turnAt, passedAt, turnsFrom, textsOf, refusedOf, outputOf}
+use Rattle.text.specs.Program.{beginOf, nextTurn, nextPassed, startAfter, counted, serveText, serveOf, finishText, printedFrom, printedOf, PrintsTheOutput, PrintingEnds, OneByteMore}
 use Rattle.text.proofs.Steps.{once, within, further}
 
--- ---- the calls of an input
+-- ---- the messages of an input
 
-pub calls-none : (most : ℕ) (r : Register) (bytes : List ℕ) → length bytes ≡ 0 → callsFrom most r bytes ≡ []
-unfolding callsFrom
-calls-none zero r bytes h = refl
-calls-none (suc most) r bytes h = rw (eq-eqb (length bytes) 0 h)
+pub turns-none : (most : ℕ) (r : Register) (bytes : List ℕ) → length bytes ≡ 0 → turnsFrom most r bytes ≡ []
+unfolding turnsFrom
+turns-none zero r bytes h = refl
+turns-none (suc most) r bytes h = rw (eq-eqb (length bytes) 0 h)
 
-pub calls-more : (most : ℕ) (r : Register) (bytes : List ℕ) → 0 < length bytes
-    → let called = callOf r bytes entryRoom in
-    let passed = passedOf (called .answer) (lengthAt bytes) in
-    callsFrom (suc most) r bytes ≡ record { message = bytes; buffer = entryRoom } ∷ cond (passed .stops) [] (callsFrom most (called .register) (drop (passed .consumed) bytes))
-unfolding callsFrom
-calls-more most r bytes h = rw (ne-eqb (length bytes) 0 (λ z. omega arith))
+pub turns-more : (most : ℕ) (r : Register) (bytes : List ℕ) → 0 < length bytes
+    → let turn = turnAt r bytes in
+    let passed = passedAt r bytes in
+    turnsFrom (suc most) r bytes ≡ turn ∷ cond (passed .stops) [] (turnsFrom most (turn .register) (drop (passed .consumed) bytes))
+unfolding turnsFrom
+turns-more most r bytes h = rw (ne-eqb (length bytes) 0 (λ z. omega arith))
 
--- ---- the text of calls, behind so many messages met and refused
+-- ---- the text of messages, behind so many met and refused
 
-pub textOn : (met refused : ℕ) → List Exchange → List ℕ
-textOn met refused seen = answersText seen ++ lastLine (met + length seen) (refused + refusedAmong seen)
+textOn : (met refused : ℕ) → List Turn → List ℕ
+textOn met refused turns = textsOf turns ++ lastLine (met + length turns) (refused + refusedOf turns)
 
-told-more : (met refused : ℕ) (x : Exchange) (seen : List Exchange)
-    → textOn met refused (x ∷ seen) ≡ answerText (x .answer) (x .buffer) ++ textOn (met + 1) (refused + refusals (x .answer)) seen
+told-more : (met refused : ℕ) (turn : Turn) (turns : List Turn) → textOn met refused (turn ∷ turns) ≡ turn .text ++ textOn (met + 1) (refused + refusals (turn .reply)) turns
 unfolding textOn
-told-more met refused x seen =
-    let m : met + suc (length seen) ≡ met + 1 + length seen = omega arith in
-    let k : refused + (refusals (x .answer) + refusedAmong seen) ≡ refused + refusals (x .answer) + refusedAmong seen = omega arith in
-    rw (m, k) (append-assoc (answerText (x .answer) (x .buffer)) (answersText seen) (lastLine (met + 1 + length seen) (refused + refusals (x .answer) + refusedAmong seen)))
+told-more met refused turn turns =
+    let m : met + suc (length turns) ≡ met + 1 + length turns = omega arith in
+    let k : refused + (refusals (turn .reply) + refusedOf turns) ≡ refused + refusals (turn .reply) + refusedOf turns = omega arith in
+    rw (m, k) (append-assoc (turn .text) (textsOf turns) (lastLine (met + 1 + length turns) (refused + refusals (turn .reply) + refusedOf turns)))
 
 -- a message that is refused counts among the refused
-pub passed-refused : (answer : Answer) (whole : ℕ) → passedOf answer whole .refused ≡ refusals answer
+passed-refused : (reply : Reply) (whole : ℕ) → passedOf reply whole .refused ≡ refusals reply
 passed-refused (Taken consumed written) whole = refl
 passed-refused (Refused n) whole = go (leb n 2)
   where
@@ -71,16 +68,16 @@ module _ (s : Served) (input : List ℕ) (more : s .from < length input) where
   some-left = omega (arith, length-drop (s .from) input)
 
   serve-is : serveOf s input ≡ record {
-    register = calledAt s input .register;
-    from = startAfter (s .from) (passedAt s input) (length input);
+    register = nextTurn s input .register;
+    from = startAfter (s .from) (nextPassed s input) (length input);
     met = counted (s .met) 1;
-    refused = counted (s .refused) (passedAt s input .refused);
+    refused = counted (s .refused) (nextPassed s input .refused);
     written = length (serveText s input);
   }
   unfolding serveOf
   serve-is = rw (lt-ltb (s .from) (length input) more)
 
-  text-is : serveText s input ≡ answerText (calledAt s input .answer) (calledAt s input .buffer)
+  text-is : serveText s input ≡ nextTurn s input .text
   unfolding serveText
   text-is = rw (lt-ltb (s .from) (length input) more)
 
@@ -88,19 +85,19 @@ module _ (s : Served) (input : List ℕ) (more : s .from < length input) where
   unfolding printedFrom
   printed-more most = rw (lt-ltb (s .from) (length input) more)
 
-  start-low : startAfter (s .from) (passedAt s input) (length input) ≤ length input
-  start-low = go (passedAt s input .stops)
+  start-low : startAfter (s .from) (nextPassed s input) (length input) ≤ length input
+  start-low = go (nextPassed s input .stops)
     where
-      go : (b : Bool) → cond b (length input) (s .from + passedAt s input .consumed) ≤ length input
+      go : (b : Bool) → cond b (length input) (s .from + nextPassed s input .consumed) ≤ length input
       go true = omega arith
       go false = within s input more
 
-  -- the calls that follow, from where the next message starts
-  calls-on : (most : ℕ) (r : Register) (b : Bool) → passedAt s input .stops ≡ b
-      → callsFrom most r (drop (cond b (length input) (s .from + passedAt s input .consumed)) input) ≡ cond b [] (callsFrom most r (drop (passedAt s input .consumed) rest))
+  -- the messages that follow, from where the next one starts
+  turns-on : (most : ℕ) (r : Register) (b : Bool) → nextPassed s input .stops ≡ b
+      → turnsFrom most r (drop (cond b (length input) (s .from + nextPassed s input .consumed)) input) ≡ cond b [] (turnsFrom most r (drop (nextPassed s input .consumed) rest))
   unfolding rest
-  calls-on most r true q = calls-none most r (drop (length input) input) (length-drop (length input) input ∙ omega arith)
-  calls-on most r false q = rw (drop-drop (passedAt s input .consumed) (s .from) input)
+  turns-on most r true q = turns-none most r (drop (length input) input) (length-drop (length input) input ∙ omega arith)
+  turns-on most r false q = rw (drop-drop (nextPassed s input .consumed) (s .from) input)
 
 printed-none : (most : ℕ) (s : Served) (input : List ℕ) → length input ≤ s .from → printedFrom most s input ≡ finishText s input
 unfolding printedFrom
@@ -114,31 +111,31 @@ record Within (s : Served) (input : List ℕ) : Type 0 where
   met : s .met ≤ s .from
   refused : s .refused ≤ s .met
 
-seenFrom : (most : ℕ) → Served → (input : List ℕ) → List Exchange
-seenFrom most s input = exchanges (s .register) (callsFrom most (s .register) (drop (s .from) input))
+turnsLeft : (most : ℕ) → Served → (input : List ℕ) → List Turn
+turnsLeft most s input = turnsFrom most (s .register) (drop (s .from) input)
 
 counted-is : (count by : ℕ) → count < longestInput → counted count by ≡ count + by
 counted-is count by h = rw (lt-ltb count longestInput h)
 
-ends-told : (most : ℕ) (s : Served) (input : List ℕ) → Within s input → callsFrom most (s .register) (drop (s .from) input) ≡ []
-    → finishText s input ≡ textOn (s .met) (s .refused) (seenFrom most s input)
-unfolding textOn seenFrom
+ends-told : (most : ℕ) (s : Served) (input : List ℕ) → Within s input → turnsFrom most (s .register) (drop (s .from) input) ≡ []
+    → finishText s input ≡ textOn (s .met) (s .refused) (turnsLeft most s input)
+unfolding textOn turnsLeft
 ends-told most s input w none = rw (none, le-ltb longestInput (length input) (w .taken), add-zero (s .met), add-zero (s .refused))
 
-module _ (most : ℕ) (h : (s : Served) (input : List ℕ) → Within s input → printedFrom most s input ≡ textOn (s .met) (s .refused) (seenFrom most s input))
+module _ (most : ℕ) (h : (s : Served) (input : List ℕ) → Within s input → printedFrom most s input ≡ textOn (s .met) (s .refused) (turnsLeft most s input))
     (s : Served) (input : List ℕ) (w : Within s input) where
   module _ (more : s .from < length input) where
-    counts : (counted (s .met) 1 ≡ s .met + 1) × (counted (s .refused) (passedAt s input .refused) ≡ s .refused + passedAt s input .refused)
-    counts = (counted-is (s .met) 1 (omega (arith, w .met, w .taken)), counted-is (s .refused) (passedAt s input .refused) (omega (arith, w .met, w .refused, w .taken)))
+    counts : (counted (s .met) 1 ≡ s .met + 1) × (counted (s .refused) (nextPassed s input .refused) ≡ s .refused + nextPassed s input .refused)
+    counts = (counted-is (s .met) 1 (omega (arith, w .met, w .taken)), counted-is (s .refused) (nextPassed s input .refused) (omega (arith, w .met, w .refused, w .taken)))
 
     -- after the message
     rest-told : printedFrom most (serveOf s input) input
-        ≡ textOn (s .met + 1) (s .refused + refusals (calledAt s input .answer))
-        (exchanges (calledAt s input .register) (cond (passedAt s input .stops) [] (callsFrom most (calledAt s input .register) (drop (passedAt s input .consumed) (rest s input more)))))
-    unfolding seenFrom
+        ≡ textOn (s .met + 1) (s .refused + refusals (nextTurn s input .reply))
+        (cond (nextPassed s input .stops) [] (turnsFrom most (nextTurn s input .register) (drop (nextPassed s input .consumed) (rest s input more))))
+    unfolding turnsLeft
     rest-told =
-        let p = passedAt s input in
-        let r = calledAt s input .register in
+        let p = nextPassed s input in
+        let r = nextTurn s input .register in
         rw (serve-is s input more)
         (h _ input
         (record {
@@ -147,32 +144,32 @@ module _ (most : ℕ) (h : (s : Served) (input : List ℕ) → Within s input �
           met = omega (arith, counts .0, further s input more, w .met);
           refused = omega (arith, counts .0, counts .1, once s input, w .refused);
         })
-        ∙ rw (counts .0, counts .1, passed-refused (calledAt s input .answer) (lengthAt (drop (s .from) input)), calls-on s input more most r (p .stops) refl))
+        ∙ rw (counts .0, counts .1, passed-refused (nextTurn s input .reply) (lengthAt (drop (s .from) input)), turns-on s input more most r (p .stops) refl))
 
-    one-told : printedFrom (suc most) s input ≡ textOn (s .met) (s .refused) (seenFrom (suc most) s input)
-    unfolding seenFrom rest
+    one-told : printedFrom (suc most) s input ≡ textOn (s .met) (s .refused) (turnsLeft (suc most) s input)
+    unfolding turnsLeft rest
     one-told =
         printed-more s input more most
         ∙ ap₂ (λ (x y : List ℕ). x ++ y) (text-is s input more) rest-told
-        ∙ rw (calls-more most (s .register) (drop (s .from) input) (some-left s input more)) (sym (told-more (s .met) (s .refused) _ _))
+        ∙ rw (turns-more most (s .register) (drop (s .from) input) (some-left s input more)) (sym (told-more (s .met) (s .refused) _ _))
 
-  step-told : printedFrom (suc most) s input ≡ textOn (s .met) (s .refused) (seenFrom (suc most) s input)
+  step-told : printedFrom (suc most) s input ≡ textOn (s .met) (s .refused) (turnsLeft (suc most) s input)
   step-told = go (ltb (s .from) (length input)) refl
     where
-      go : (b : Bool) → ltb (s .from) (length input) ≡ b → printedFrom (suc most) s input ≡ textOn (s .met) (s .refused) (seenFrom (suc most) s input)
+      go : (b : Bool) → ltb (s .from) (length input) ≡ b → printedFrom (suc most) s input ≡ textOn (s .met) (s .refused) (turnsLeft (suc most) s input)
       go true q = one-told (ltb-true (s .from) (length input) q)
       go false q =
           let e : length input ≤ s .from = ltb-false (s .from) (length input) q in
           printed-none (suc most) s input e
-          ∙ ends-told (suc most) s input w (calls-none (suc most) (s .register) (drop (s .from) input) (length-drop (s .from) input ∙ omega arith))
+          ∙ ends-told (suc most) s input w (turns-none (suc most) (s .register) (drop (s .from) input) (length-drop (s .from) input ∙ omega arith))
 
-printed-told : (most : ℕ) (s : Served) (input : List ℕ) → Within s input → printedFrom most s input ≡ textOn (s .met) (s .refused) (seenFrom most s input)
-unfolding callsFrom printedFrom
+printed-told : (most : ℕ) (s : Served) (input : List ℕ) → Within s input → printedFrom most s input ≡ textOn (s .met) (s .refused) (turnsLeft most s input)
+unfolding turnsFrom printedFrom
 printed-told zero s input w = ends-told zero s input w refl
 printed-told (suc most) s input w = step-told most (printed-told most) s input w
 
 pub prints-the-output : PrintsTheOutput
-unfolding printedOf outputOf textOn seenFrom
+unfolding printedOf outputOf textOn turnsLeft
 prints-the-output input = go (ltb longestInput (length input)) refl
   where
     go : (b : Bool) → ltb longestInput (length input) ≡ b → printedOf input ≡ outputOf input
@@ -196,7 +193,7 @@ two-bounds (suc most) (suc other) s input h k = go (ltb (s .from) (length input)
     go true q on =
         let more = ltb-true (s .from) (length input) q in
         let f = further s input more in
-        let e : serveOf s input .from ≡ startAfter (s .from) (passedAt s input) (length input) = ap (λ (x : Served). x .from) (serve-is s input more) in
+        let e : serveOf s input .from ≡ startAfter (s .from) (nextPassed s input) (length input) = ap (λ (x : Served). x .from) (serve-is s input more) in
         printed-more s input more most ∙ ap (λ (l : List ℕ). serveText s input ++ l) (on (omega (arith, e, f)) (omega (arith, e, f))) ∙ sym (printed-more s input more other)
     go false q on =
         let e : length input ≤ s .from = ltb-false (s .from) (length input) q in

@@ -5,4 +5,4 @@ use Rattle.text.specs.Quoted.{quoted, QuotedPlain}
 
 pub quoted-plain : QuotedPlain
 unfolding quoted
-quoted-plain = record { letters = refl; digits = refl; marks = refl }
+quoted-plain = record { none = refl; each = λ c t. refl; letters = refl; digits = refl; marks = refl }

@@ -8,8 +8,9 @@ use lib.Dec.{leb}
 use lib.ListN.{length, getD}
 use Rattle.rule.specs.Lists.{every}
 use Rattle.events.specs.declared.Event.the-variants.{Withdraw}
-use Rattle.account.specs.declared.Told.the-variants.{Accepted}
-use Rattle.account.specs.declared.Entry.{Entry}
+use Rattle.filing.specs.declared.Verdict.the-variants.{Accepted}
+use Rattle.filing.specs.declared.Entry.{Entry}
+use Rattle.entry.specs.Plain.{vote}
 use Rattle.text.specs.Text.{decimal, lineOf}
 
 -- the number that digits are, after a number so far
@@ -29,7 +30,12 @@ Decimals = (number : ℕ) → number < 10 ^ 10 → Decimal number (decimal numbe
 
 -- a line as long as any can be
 abbrev pub longEntry : Entry
-longEntry = record { transaction = 4_294_967_295; second = 4_294_967_295; told = Accepted (Withdraw 4_294_967_295) 4_294_967_295 }
+longEntry =
+    record {
+      transaction = 4_294_967_295;
+      filed = record { second = 4_294_967_295 };
+      told = vote Accepted (Withdraw 4_294_967_295) 4_294_967_295;
+    }
 
 abbrev pub LongestLineIs : Type 0
 LongestLineIs = length (lineOf 65535 longEntry) ≡ 68

@@ -6,5 +6,6 @@ pub mod Vectors
 pub mod Lines
 pub mod Output
 pub mod Program
+pub mod Turned
 pub mod Samples
 pub mod OutputCalls

@@ -9,14 +9,16 @@ use mathlib.Core.Option.{none}
 use lib.Dec.{leb, ltb}
 use lib.ListN.{length, take, drop}
 use Rattle.rule.specs.Lists.{every}
+use Rattle.rule.specs.Tests.{test, firstOf}
 use Rattle.events.specs.declared.Event.{Event}
 use Rattle.events.specs.declared.Event.the-variants.{Open, Withdraw, Deposit, Close}
-use Rattle.account.specs.declared.Told.{Told}
-use Rattle.account.specs.declared.Entry.{Entry}
-use Rattle.layout.specs.Answers.{given, Wrote, test, firstOf, Stays}
-use Rattle.text.specs.Text.{decimal, lineOf, writeLineOf}
-use Rattle.text.specs.Quoted.{quoted}
+use Rattle.filing.specs.declared.Told.{Told}
+use Rattle.filing.specs.declared.Entry.{Entry}
+use Rattle.layout.specs.Answers.{saidOfWriting, Wrote, Stays}
 use Rattle.entry.specs.Plain.{ofEachKind}
+use Rattle.entry.specs.Forms.{together}
+use Rattle.text.specs.Text.{decimal, lineOf, linesOf, writeLineOf}
+use Rattle.text.specs.Quoted.{quoted}
 
 -- a space and a number, in decimal
 abbrev pub field : (number : ℕ) → List ℕ
@@ -33,11 +35,20 @@ eventText Close = quoted " close" ++ field 0
 abbrev pub headingText : (transaction account second : ℕ) → List ℕ
 headingText t a s = field t ++ (field a ++ field s)
 
+-- these words in full: an amount is printed whatever it is, of a Close 0
+pub record WordsPlain (t a s : ℕ) : Type 0 where
+  pub opens : eventText (Open a) ≡ quoted " open " ++ decimal a
+  pub withdraws : eventText (Withdraw a) ≡ quoted " withdraw " ++ decimal a
+  pub deposits : eventText (Deposit a) ≡ quoted " deposit " ++ decimal a
+  pub closes : eventText Close ≡ quoted " close 0"
+  pub heading : headingText t a s ≡ quoted " " ++ (decimal t ++ (quoted " " ++ (decimal a ++ (quoted " " ++ decimal s))))
+  pub number : field a ≡ quoted " " ++ decimal a
+
 -- the line of an entry of each kind
 abbrev pub LinesPlain : Type 0
 LinesPlain =
     (t a s : ℕ) (e : Event) (n : ℕ)
-    → map (λ (told : Told). lineOf a (record { transaction = t; second = s; told = told })) (ofEachKind e n)
+    → map (λ (told : Told). lineOf a (record { transaction = t; filed = record { second = s }; told = told })) (ofEachKind e n)
     ≡ (quoted "accepted" ++ (headingText t a s ++ (eventText e ++ (field n ++ quoted "\n")))) ∷
     (quoted "rejected" ++ (headingText t a s ++ (eventText e ++ (field n ++ quoted "\n")))) ∷
     (quoted "held" ++ (headingText t a s ++ (eventText e ++ (field n ++ quoted "\n")))) ∷
@@ -45,6 +56,10 @@ LinesPlain =
     (quoted "applied" ++ (headingText t a s ++ (eventText e ++ (field n ++ quoted "\n")))) ∷
     (quoted "dropped" ++ (headingText t a s ++ (eventText e ++ quoted "\n"))) ∷
     []
+
+-- the lines of entries: each under that account, in their order, and nothing else
+abbrev pub LinesTogether : Type 0
+LinesTogether = (account : ℕ) (entries : List Entry) → linesOf account entries ≡ together (map (lineOf account) entries)
 
 -- the last byte is a newline, and none before it is below a space
 pub record Ended (text : List ℕ) : Type 0 where
@@ -60,7 +75,7 @@ LinesFit = (account : ℕ) (e : Entry) → account < 65_536 → length (lineOf a
 
 -- the answer is the line's length, and the buffer begins with the line
 pub record Leaves (line : List ℕ) (w : Wrote) : Type 0 where
-  pub answer : given (w .answer) ≡ record { refusal = none; length′ = length line }
+  pub answer : saidOfWriting (w .answer) ≡ record { refusal = none; length′ = length line }
   pub text : take (length line) (w .buffer) ≡ line
 
 abbrev pub LineReadBack : Type 0
@@ -69,7 +84,7 @@ LineReadBack = (e : Entry) (account : ℕ) (buffer : List ℕ) → 68 ≤ length
 -- a line is refused exactly if the buffer is too short for the longest
 abbrev pub LineRefuses : Type 0
 LineRefuses =
-    (e : Entry) (account : ℕ) (buffer : List ℕ) → given (writeLineOf e account buffer .answer) .refusal ≡ firstOf (test (ltb (length buffer) 68) 4 ∷ [])
+    (e : Entry) (account : ℕ) (buffer : List ℕ) → saidOfWriting (writeLineOf e account buffer .answer) .refusal ≡ firstOf (test (ltb (length buffer) 68) 4 ∷ [])
 
 -- an account's number has 2 bytes
 abbrev pub LineStays : Type 0

@@ -1,23 +1,28 @@
--- The whole text of an input (section 12 of docs/REGISTER.md): the first line, the text of each call's answer, the last line. It goes by what is
--- seen of the calls that the input makes.
+-- The whole text of an input (section 12 of docs/REGISTER.md): the first line, the text of each message that is met, the last line. It goes by values: a
+-- message is read and sent, and its entries are printed; no buffer plays a part.
 -- Assumes nothing.
-use Prim.Native.Nat.{ℕ, zero, suc}
+use Prim.Native.Nat.{ℕ, zero, suc, _+_}
 use mathlib.Core.Bool.{cond}
 use mathlib.Core.List.{List, [], _∷_, _++_}
 use lib.Dec.{eqb, ltb}
-use lib.ListN.{length, take, drop, replicate}
-use Rattle.entry.specs.declared.EntryReading.{EntryReading}
-use Rattle.entry.specs.declared.EntryReading.the-variants.{Found, Nothing}
-use Rattle.entry.specs.Answers.{readOf}
+use lib.ListN.{length, drop}
+use Rattle.filing.specs.declared.Entries.{Entries}
+use Rattle.account.specs.declared.Answer.{Answer}
+use Rattle.account.specs.declared.Answer.the-variants as Answer′
+use Rattle.message.specs.declared.Reading.{Reading}
+use Rattle.message.specs.declared.Reading.the-variants as Reading′
+use Rattle.message.specs.Bytes.{headingOf}
+use Rattle.message.specs.Answers.{readOf}
+use Rattle.entry.specs.Bytes.{listOf}
 use Rattle.register.specs.declared.Register.{Register}
-use Rattle.register.specs.declared.Answer.{Answer}
-use Rattle.register.specs.declared.Answer.the-variants.{Refused, Taken}
-use Rattle.register.specs.Register.{freshRegister}
-use Rattle.register.specs.Call.{callOf}
-use Rattle.register.specs.Sequence.{Input, Exchange, exchanges}
+use Rattle.register.specs.declared.Sent.{Sent}
+use Rattle.register.specs.declared.Reply.{Reply}
+use Rattle.register.specs.declared.Reply.the-variants.{Refused, Taken}
+use Rattle.register.specs.declared.runs.Passed.{Passed}
+use Rattle.register.specs.First.{freshRegister, sentOf}
 use Rattle.register.specs.Run.{lengthAt, passedOf}
-use Rattle.register.specs.RunCalls.{refusedAmong}
-use Rattle.text.specs.Text.{decimal, spaced, lineOf}
+use Rattle.register.specs.RunCalls.{refusals}
+use Rattle.text.specs.Text.{decimal, spaced, linesOf}
 use Rattle.text.specs.Quoted.{quoted}
 
 -- 12.1: so many bytes are taken
@@ -39,50 +44,62 @@ refusedLine number = quoted "refused" ++ (spaced (decimal number ∷ []) ++ quot
 unfoldable pub lastLine : (met refused : ℕ) → List ℕ
 lastLine met refused = quoted "end" ++ (spaced (decimal met ∷ decimal refused ∷ []) ++ quoted "\n")
 
--- an entry that was read, as its line, and the lines of the bytes behind it; where there is none, the entries have ended
-abbrev pub linesOn : (bytes : List ℕ) → (List ℕ → List ℕ) → EntryReading → List ℕ
-linesOn bytes rest (Found e account whole) = lineOf account e ++ rest (drop whole bytes)
-linesOn bytes rest Nothing = []
+-- what a message that is met comes to: the register that follows, the reply, in which nothing is written, and the text
+pub record Turn : Type 0 where
+  pub register : Register
+  pub reply : Reply
+  pub text : List ℕ
 
--- the lines of the entries that bytes hold, one after the other, at most so many
-unfoldable pub linesFrom : (most : ℕ) (bytes : List ℕ) → List ℕ
-linesFrom zero bytes = []
-linesFrom (suc most) bytes = linesOn bytes (λ (rest : List ℕ). linesFrom most rest) (readOf bytes)
+-- a refusal: its line
+abbrev pub refusedTurn : Register → (number : ℕ) → Turn
+refusedTurn r n = record { register = r; reply = Refused n; text = refusedLine n }
 
--- 9.5: no call has more entries
-abbrev pub mostLines : ℕ
-mostLines = 17
+-- what sending it to an account gave: the refusal, or the lines of the entries
+abbrev pub sentAs : (account consumed : ℕ) → Answer → Register → Entries → Turn
+sentAs i consumed (Answer′.Refused n) next entries = refusedTurn next n
+sentAs i consumed Answer′.Taken next entries = record { register = next; reply = Taken consumed 0; text = linesOf i (listOf entries) }
 
--- the text of an answer: the lines of the entries, or the refusal
-abbrev pub answerText : Answer → (buffer : List ℕ) → List ℕ
-answerText (Refused number) buffer = refusedLine number
-answerText (Taken consumed written) buffer = linesFrom mostLines (take written buffer)
+abbrev pub sentTurn : (account consumed : ℕ) → Sent → Turn
+sentTurn i consumed sent = sentAs i consumed (sent .answer) (sent .register) (sent .entries)
 
-abbrev pub answersText : List Exchange → List ℕ
-answersText [] = []
-answersText (x ∷ xs) = answerText (x .answer) (x .buffer) ++ answersText xs
+-- what was read: the reader's refusal, or a message, which is sent
+abbrev pub readTurn : Register → Reading → Turn
+readTurn r (Reading′.Refused n) = refusedTurn r n
+readTurn r (Reading′.Message m consumed) = sentTurn (headingOf m .account) consumed (sentOf r m)
 
--- the text after the first line, by what is seen of the calls: a refused message counts in both numbers
-abbrev pub seenText : List Exchange → List ℕ
-seenText seen = answersText seen ++ lastLine (length seen) (refusedAmong seen)
+unfoldable pub turnAt : Register → (bytes : List ℕ) → Turn
+turnAt r bytes = readTurn r (readOf bytes)
 
--- every call gets an entry buffer that a call needs
-abbrev pub entryRoom : List ℕ
-entryRoom = replicate 315 0
+-- where the messages stop and how they go on is the rule of a run (11.5)
+abbrev pub passedAt : Register → (bytes : List ℕ) → Passed
+passedAt r bytes = passedOf (turnAt r bytes .reply) (lengthAt bytes)
 
--- the calls that bytes make from a register on, at most so many: where they stop and how they go on is the rule of a run (11.5)
-unfoldable pub callsFrom : (most : ℕ) → Register → (bytes : List ℕ) → List Input
-callsFrom zero r bytes = []
-callsFrom (suc most) r bytes =
-    let called = callOf r bytes entryRoom in
-    let passed = passedOf (called .answer) (lengthAt bytes) in
-    let more = callsFrom most (called .register) (drop (passed .consumed) bytes) in
-    let calls : List Input = record { message = bytes; buffer = entryRoom } ∷ cond (passed .stops) [] more in
-    cond (eqb (length bytes) 0) [] calls
+-- the messages that bytes hold, sent to a register one after the other, at most so many
+unfoldable pub turnsFrom : (most : ℕ) → Register → (bytes : List ℕ) → List Turn
+turnsFrom zero r bytes = []
+turnsFrom (suc most) r bytes =
+    let turn = turnAt r bytes in
+    let passed = passedAt r bytes in
+    let more = turnsFrom most (turn .register) (drop (passed .consumed) bytes) in
+    let turns : List Turn = turn ∷ cond (passed .stops) [] more in
+    cond (eqb (length bytes) 0) [] turns
 
--- what is seen of the calls of an input; there are no more messages than bytes
-abbrev pub exchangesOf : (bytes : List ℕ) → List Exchange
-exchangesOf bytes = exchanges freshRegister (callsFrom (length bytes) freshRegister bytes)
+-- their texts, one after the other, and how many of them are refused
+abbrev pub textsOf : List Turn → List ℕ
+textsOf [] = []
+textsOf (turn ∷ turns) = turn .text ++ textsOf turns
+
+abbrev pub refusedOf : List Turn → ℕ
+refusedOf [] = 0
+refusedOf (turn ∷ turns) = refusals (turn .reply) + refusedOf turns
+
+-- the text after the first line: a refused message counts in both numbers
+abbrev pub turnsText : List Turn → List ℕ
+turnsText turns = textsOf turns ++ lastLine (length turns) (refusedOf turns)
+
+-- the messages of an input; there are no more of them than bytes
+abbrev pub turnsOf : (bytes : List ℕ) → List Turn
+turnsOf bytes = turnsFrom (length bytes) freshRegister bytes
 
 unfoldable pub outputOf : (bytes : List ℕ) → List ℕ
-outputOf bytes = firstLine ++ cond (ltb longestInput (length bytes)) tooLong (seenText (exchangesOf bytes))
+outputOf bytes = firstLine ++ cond (ltb longestInput (length bytes)) tooLong (turnsText (turnsOf bytes))

@@ -8,12 +8,10 @@ use mathlib.Core.List.{List, [], _++_}
 use lib.Dec.{ltb}
 use lib.ListN.{length, take, drop}
 use Rattle.register.specs.declared.runs.Passed.{Passed}
-use Rattle.register.specs.Register.{freshRegister}
-use Rattle.register.specs.Call.{Result, callOf}
-use Rattle.register.specs.Run.{lengthAt, passedOf}
+use Rattle.register.specs.First.{freshRegister}
 use Rattle.text.specs.declared.program.Served.{Served}
 use Rattle.text.specs.Text.{Put}
-use Rattle.text.specs.Output.{longestInput, firstLine, tooLong, lastLine, answerText, entryRoom, outputOf}
+use Rattle.text.specs.Output.{longestInput, firstLine, tooLong, lastLine, Turn, turnAt, passedAt, outputOf}
 
 -- the room that the text of any step needs: 17 lines of 68 bytes
 abbrev pub longestText : ℕ
@@ -33,13 +31,12 @@ beginOf input =
       written = length (beginText input);
     }
 
--- what the register gives for the next message,
-abbrev pub calledAt : Served → (input : List ℕ) → Result
-calledAt s input = callOf (s .register) (drop (s .from) input) entryRoom
+-- the next message, and how the program goes on from it
+abbrev pub nextTurn : Served → (input : List ℕ) → Turn
+nextTurn s input = turnAt (s .register) (drop (s .from) input)
 
--- and what that message comes to
-abbrev pub passedAt : Served → (input : List ℕ) → Passed
-passedAt s input = passedOf (calledAt s input .answer) (lengthAt (drop (s .from) input))
+abbrev pub nextPassed : Served → (input : List ℕ) → Passed
+nextPassed s input = passedAt (s .register) (drop (s .from) input)
 
 -- where the next message starts; at the end of the input there is none, and so it is after a message at which a run stops
 abbrev pub startAfter : (from : ℕ) → Passed → (end : ℕ) → ℕ
@@ -51,16 +48,16 @@ counted count by = cond (ltb count longestInput) (count + by) count
 
 -- one message: its text, and what has been served then. Where there is no message there is no text, and nothing changes.
 unfoldable pub serveText : Served → (input : List ℕ) → List ℕ
-serveText s input = cond (ltb (s .from) (length input)) (answerText (calledAt s input .answer) (calledAt s input .buffer)) []
+serveText s input = cond (ltb (s .from) (length input)) (nextTurn s input .text) []
 
 unfoldable pub serveOf : Served → (input : List ℕ) → Served
 serveOf s input =
     cond (ltb (s .from) (length input))
     (record {
-      register = calledAt s input .register;
-      from = startAfter (s .from) (passedAt s input) (length input);
+      register = nextTurn s input .register;
+      from = startAfter (s .from) (nextPassed s input) (length input);
       met = counted (s .met) 1;
-      refused = counted (s .refused) (passedAt s input .refused);
+      refused = counted (s .refused) (nextPassed s input .refused);
       written = length (serveText s input);
     })
     (record { register = s .register; from = s .from; met = s .met; refused = s .refused; written = 0 })

@@ -8,10 +8,13 @@ use lib.Dec.{ltb, eqb}
 use lib.ListN.{length}
 use lib.Seq.{sets}
 use Rattle.events.specs.declared.Event.{Event}
-use Rattle.account.specs.declared.Told.{Told}
-use Rattle.account.specs.declared.Told.the-variants.{Accepted, Rejected, Held, Noted, Applied, Dropped}
-use Rattle.account.specs.declared.Entry.{Entry}
 use Rattle.events.specs.Kinds.{eventKind, amountOf}
+use Rattle.filing.specs.declared.Filed.{Filed}
+use Rattle.filing.specs.declared.Verdict.{Verdict}
+use Rattle.filing.specs.declared.Verdict.the-variants.{Accepted, Rejected, Held}
+use Rattle.filing.specs.declared.Told.{Told}
+use Rattle.filing.specs.declared.Told.the-variants.{Voted, Noted, Applied, Dropped}
+use Rattle.filing.specs.declared.Entry.{Entry}
 use Rattle.layout.specs.Answers.{Wrote, wroteOver, refusedWith}
 
 -- the digits of a number, highest first, at most as many as `places` says
@@ -23,11 +26,15 @@ decimalIn (suc places) number = cond (ltb number 10) ((48 + number) ∷ []) (dec
 abbrev pub decimal : (number : ℕ) → List ℕ
 decimal number = decimalIn 10 number
 
--- the entry's name, letter by letter
+-- a vote's name, letter by letter, by its verdict
+abbrev pub voteName : Verdict → List ℕ
+voteName Accepted = 97 ∷ 99 ∷ 99 ∷ 101 ∷ 112 ∷ 116 ∷ 101 ∷ 100 ∷ []
+voteName Rejected = 114 ∷ 101 ∷ 106 ∷ 101 ∷ 99 ∷ 116 ∷ 101 ∷ 100 ∷ []
+voteName Held = 104 ∷ 101 ∷ 108 ∷ 100 ∷ []
+
+-- the entry's name
 abbrev pub nameOf : Told → List ℕ
-nameOf (Accepted e weighed) = 97 ∷ 99 ∷ 99 ∷ 101 ∷ 112 ∷ 116 ∷ 101 ∷ 100 ∷ []
-nameOf (Rejected e weighed) = 114 ∷ 101 ∷ 106 ∷ 101 ∷ 99 ∷ 116 ∷ 101 ∷ 100 ∷ []
-nameOf (Held e weighed) = 104 ∷ 101 ∷ 108 ∷ 100 ∷ []
+nameOf (Voted e weighing) = voteName (weighing .verdict)
 nameOf Noted = 110 ∷ 111 ∷ 116 ∷ 101 ∷ 100 ∷ []
 nameOf (Applied e balance) = 97 ∷ 112 ∷ 112 ∷ 108 ∷ 105 ∷ 101 ∷ 100 ∷ []
 nameOf (Dropped e) = 100 ∷ 114 ∷ 111 ∷ 112 ∷ 112 ∷ 101 ∷ 100 ∷ []
@@ -39,11 +46,13 @@ eventName e =
     (cond (eqb (eventKind e) 2) (119 ∷ 105 ∷ 116 ∷ 104 ∷ 100 ∷ 114 ∷ 97 ∷ 119 ∷ [])
     (cond (eqb (eventKind e) 3) (100 ∷ 101 ∷ 112 ∷ 111 ∷ 115 ∷ 105 ∷ 116 ∷ []) (99 ∷ 108 ∷ 111 ∷ 115 ∷ 101 ∷ [])))
 
+-- the fields behind the name: transaction, account, and the second that was filed
+abbrev pub headingFields : (transaction account : ℕ) → Filed → List (List ℕ)
+headingFields t account g = decimal t ∷ decimal account ∷ decimal (g .second) ∷ []
+
 -- the fields behind the second: the event and its amount, and the outcomes weighed or the balance; none after a commit noted
 abbrev pub thenFields : Told → List (List ℕ)
-thenFields (Accepted e weighed) = eventName e ∷ decimal (amountOf e) ∷ decimal weighed ∷ []
-thenFields (Rejected e weighed) = eventName e ∷ decimal (amountOf e) ∷ decimal weighed ∷ []
-thenFields (Held e weighed) = eventName e ∷ decimal (amountOf e) ∷ decimal weighed ∷ []
+thenFields (Voted e weighing) = eventName e ∷ decimal (amountOf e) ∷ decimal (weighing .weighed) ∷ []
 thenFields Noted = []
 thenFields (Applied e balance) = eventName e ∷ decimal (amountOf e) ∷ decimal balance ∷ []
 thenFields (Dropped e) = eventName e ∷ decimal (amountOf e) ∷ []
@@ -56,8 +65,12 @@ spaced (field ∷ fields) = 32 ∷ (field ++ spaced fields)
 -- the fields in their order, and a newline
 unfoldable pub lineOf : (account : ℕ) → Entry → List ℕ
 lineOf account e =
-    nameOf (e .told)
-    ++ (spaced (decimal (e .transaction) ∷ decimal account ∷ decimal (e .second) ∷ []) ++ (spaced (thenFields (e .told)) ++ (10 ∷ [])))
+    nameOf (e .told) ++ (spaced (headingFields (e .transaction) account (e .filed)) ++ (spaced (thenFields (e .told)) ++ (10 ∷ [])))
+
+-- the lines of entries, one after the other
+unfoldable pub linesOf : (account : ℕ) → List Entry → List ℕ
+linesOf account [] = []
+linesOf account (e ∷ es) = lineOf account e ++ linesOf account es
 
 -- the longest line: a vote on a withdrawal, ten digits for each number of 4 bytes, five for the account's 2
 abbrev pub longestLine : ℕ
@@ -73,6 +86,6 @@ pub record Put (text : List ℕ) (at most : ℕ) (before : List ℕ) (next : ℕ
   pub within : next ≤ at + most
   pub stored : after ≡ sets before at text
 
--- where text may start: far more than any place that is used, and there for the checker's sums alone
+-- where text may end: far behind any place that is used, and there for the checker's sums alone
 abbrev pub farthest : ℕ
 farthest = 4_096

@@ -7,9 +7,9 @@ use mathlib.Core.Path.{_≡_}
 use mathlib.Core.List.{List, [], _∷_, _++_, map}
 use mathlib.Core.Option.{none, some}
 use lib.ListN.{length, replicate}
-use Rattle.account.specs.declared.Told.the-variants.{Noted}
-use Rattle.layout.specs.Answers.{Given, given}
-use Rattle.entry.specs.Vectors.{Vector, table}
+use Rattle.filing.specs.declared.Told.the-variants.{Noted}
+use Rattle.layout.specs.Answers.{SaidOfWriting, saidOfWriting}
+use Rattle.entry.specs.Vectors.{Vector, table, entry}
 use Rattle.text.specs.Text.{lineOf, writeLineOf}
 use Rattle.text.specs.Quoted.{quoted}
 
@@ -29,14 +29,14 @@ lines =
 -- what a row comes to: the line, and what the writer of lines answers and leaves of a buffer of 70 bytes
 pub record Found : Type 0 where
   pub line : List ℕ
-  pub answer : Given
+  pub answer : SaidOfWriting
   pub left : List ℕ
 
 abbrev pub found : Vector → Found
 found v =
     record {
       line = lineOf (v .account) (v .entry);
-      answer = given (writeLineOf (v .entry) (v .account) (replicate 70 0xaa) .answer);
+      answer = saidOfWriting (writeLineOf (v .entry) (v .account) (replicate 70 0xaa) .answer);
       left = writeLineOf (v .entry) (v .account) (replicate 70 0xaa) .buffer;
     }
 
@@ -52,4 +52,4 @@ said text =
 pub record VectorsHold : Type 0 where
   pub lines : map found table ≡ map said lines
   -- a line is refused by 67 bytes
-  pub short : given (writeLineOf (record { transaction = 1; second = 2; told = Noted }) 3 (replicate 67 0xaa) .answer) ≡ record { refusal = some 4; length′ = 0 }
+  pub short : saidOfWriting (writeLineOf (entry 1 2 Noted) 3 (replicate 67 0xaa) .answer) ≡ record { refusal = some 4; length′ = 0 }

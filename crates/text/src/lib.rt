@@ -1,6 +1,7 @@
 // The program's text: an entry's line, and all that the program prints, step by step.
 mod line;
 mod program;
+mod turns;
 mod words;
 
 pub use line::write_line;

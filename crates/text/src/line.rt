@@ -1,15 +1,16 @@
-// An entry's line of text.
-ghost use mathlib.Core.List.{[], _∷_};
+// An entry's line of text, and the pieces that every line is made of. Each piece ends before `farthest`, which is said for the sums alone.
+ghost use mathlib.Core.List.{[], _∷_, _++_};
 ghost use mathlib.Core.Path.{_≡_};
 ghost use Prim.Native.Nat.{_+_, _≤_, _<_};
 ghost use lib.ListN.{length, take};
 ghost use Rattle.events.specs.Kinds.{amountOf};
-ghost use Rattle.text.specs.Text.{decimalIn, decimal, eventName, thenFields, spaced, lineOf, longestLine, writeLineOf, Put, farthest};
+ghost use Rattle.text.specs.Text.{decimalIn, decimal, eventName, headingFields, thenFields, spaced, lineOf, longestLine, writeLineOf, Put, farthest};
 use crate::words;
 use crate::words::Word;
-use account::Entry;
-use account::Told;
 use events::Event;
+use filing::Entry;
+use filing::Filed;
+use filing::Told;
 use layout::Writing;
 
 // Writes the line of an entry of that account to the beginning of a buffer.
@@ -24,36 +25,34 @@ pub fn write_line(entry: Entry, account: u16, buffer: &mut [u8]) -> Writing
 
 // Stores the line of an entry of that account from `at` on.
 pub(crate) fn put_line(buffer: &mut [u8], at: usize, entry: Entry, account: u16) -> usize
-    requires { ⌜ at ≤ farthest ⌝ }
+    requires { ⌜ at + 73 ≤ farthest ⌝ }
     ensures { λ r. ⌜ Put (lineOf account entry) at longestLine (now (buffer .entry)) r (now (buffer .exit)) ⌝ }
 {
     let told = entry.told;
+    let filed = entry.filed;
     let named = put_word(buffer, at, words::name(told));
-    let headed = put_heading(buffer, named, entry.transaction, account, entry.second);
+    let headed = put_heading(buffer, named, entry.transaction, account, filed);
     let end = put_then(buffer, headed, told);
-    layout::put1(buffer, end, b'\n');
-    end + 1
+    end_line(buffer, end)
 }
 
 // Stores transaction, account and second from `at` on.
-fn put_heading(buffer: &mut [u8], at: usize, transaction: u32, account: u16, second: u32) -> usize
-    requires { ⌜ at ≤ farthest + 100 ⌝ }
-    ensures { λ r. ⌜ Put (spaced (decimal transaction ∷ decimal account ∷ decimal second ∷ [])) at 33 (now (buffer .entry)) r (now (buffer .exit)) ⌝ }
+fn put_heading(buffer: &mut [u8], at: usize, transaction: u32, account: u16, filed: Filed) -> usize
+    requires { ⌜ at + 33 ≤ farthest ⌝ }
+    ensures { λ r. ⌜ Put (spaced (headingFields transaction account filed)) at 33 (now (buffer .entry)) r (now (buffer .exit)) ⌝ }
 {
     let first = put_number(buffer, at, transaction);
-    let second_at = put_number(buffer, first, account as u32);
-    put_number(buffer, second_at, second)
+    let second = put_number(buffer, first, account as u32);
+    put_number(buffer, second, filed.second)
 }
 
 // Stores what follows transaction, account and second from `at` on.
 fn put_then(buffer: &mut [u8], at: usize, told: Told) -> usize
-    requires { ⌜ at ≤ farthest + 200 ⌝ }
+    requires { ⌜ at + 31 ≤ farthest ⌝ }
     ensures { λ r. ⌜ Put (spaced (thenFields told)) at 31 (now (buffer .entry)) r (now (buffer .exit)) ⌝ }
 {
     match told {
-        Told::Accepted(event, weighed) => put_with(buffer, at, event, weighed),
-        Told::Rejected(event, weighed) => put_with(buffer, at, event, weighed),
-        Told::Held(event, weighed) => put_with(buffer, at, event, weighed),
+        Told::Voted(event, weighing) => put_with(buffer, at, event, weighing.weighed),
         Told::Noted => at,
         Told::Applied(event, balance) => put_with(buffer, at, event, balance),
         Told::Dropped(event) => put_event(buffer, at, event),
@@ -62,7 +61,7 @@ fn put_then(buffer: &mut [u8], at: usize, told: Told) -> usize
 
 // Stores an event and the number that follows it from `at` on.
 fn put_with(buffer: &mut [u8], at: usize, event: Event, number: u32) -> usize
-    requires { ⌜ at ≤ farthest + 200 ⌝ }
+    requires { ⌜ at + 31 ≤ farthest ⌝ }
     ensures { λ r. ⌜ Put (spaced (eventName event ∷ decimal (amountOf event) ∷ decimal number ∷ [])) at 31 (now (buffer .entry)) r (now (buffer .exit)) ⌝ }
 {
     let next = put_event(buffer, at, event);
@@ -71,7 +70,7 @@ fn put_with(buffer: &mut [u8], at: usize, event: Event, number: u32) -> usize
 
 // Stores an event's name and amount from `at` on.
 fn put_event(buffer: &mut [u8], at: usize, event: Event) -> usize
-    requires { ⌜ at ≤ farthest + 200 ⌝ }
+    requires { ⌜ at + 20 ≤ farthest ⌝ }
     ensures { λ r. ⌜ Put (spaced (eventName event ∷ decimal (amountOf event) ∷ [])) at 20 (now (buffer .entry)) r (now (buffer .exit)) ⌝ }
 {
     layout::put1(buffer, at, b' ');
@@ -79,9 +78,18 @@ fn put_event(buffer: &mut [u8], at: usize, event: Event) -> usize
     put_number(buffer, next, event.amount())
 }
 
+// Stores letters and a number at the beginning of a buffer.
+pub(crate) fn put_named(buffer: &mut [u8], letters: &[u8], number: u32) -> usize
+    requires { ⌜ length (now letters) + 11 ≤ farthest ⌝ }
+    ensures { λ r. ⌜ Put (now (letters .entry) ++ spaced (decimal number ∷ [])) 0 (length (now (letters .entry)) + 11) (now (buffer .entry)) r (now (buffer .exit)) ⌝ }
+{
+    let named = put_letters(buffer, 0, letters);
+    put_number(buffer, named, number)
+}
+
 // Stores a space and a number from `at` on.
 pub(crate) fn put_number(buffer: &mut [u8], at: usize, number: u32) -> usize
-    requires { ⌜ at ≤ farthest + 400 ⌝ }
+    requires { ⌜ at + 11 ≤ farthest ⌝ }
     ensures { λ r. ⌜ Put (spaced (decimal number ∷ [])) at 11 (now (buffer .entry)) r (now (buffer .exit)) ⌝ }
 {
     layout::put1(buffer, at, b' ');
@@ -90,7 +98,7 @@ pub(crate) fn put_number(buffer: &mut [u8], at: usize, number: u32) -> usize
 
 // Stores the digits of a number from `at` on, at most as many as `places` says.
 fn put_decimal(buffer: &mut [u8], at: usize, places: usize, number: u32) -> usize
-    requires { ⌜ (at ≤ farthest + 500) × (places ≤ 10) ⌝ }
+    requires { ⌜ at + places ≤ farthest ⌝ }
     ensures { λ r. ⌜ Put (decimalIn places number) at places (now (buffer .entry)) r (now (buffer .exit)) ⌝ }
 {
     if places == 0 {
@@ -115,7 +123,7 @@ fn digit(number: u32) -> u8
 
 // Stores a name from `at` on.
 fn put_word(buffer: &mut [u8], at: usize, word: Word) -> usize
-    requires { ⌜ (at ≤ farthest + 300) × (word .length ≤ 8) ⌝ }
+    requires { ⌜ (at + 8 ≤ farthest) × (word .length ≤ 8) ⌝ }
     ensures { λ r. ⌜ Put (take (word .length) (word .letters)) at 8 (now (buffer .entry)) r (now (buffer .exit)) ⌝ }
 {
     let length = word.length;
@@ -125,7 +133,7 @@ fn put_word(buffer: &mut [u8], at: usize, word: Word) -> usize
 
 // Stores letters from `at` on.
 pub(crate) fn put_letters(buffer: &mut [u8], at: usize, letters: &[u8]) -> usize
-    requires { ⌜ (at ≤ farthest + 300) × (length (now letters) ≤ farthest) ⌝ }
+    requires { ⌜ at + length (now letters) ≤ farthest ⌝ }
     ensures { λ r. ⌜ Put (now (letters .entry)) at (length (now (letters .entry))) (now (buffer .entry)) r (now (buffer .exit)) ⌝ }
 {
     let mut i: usize = 0;
@@ -134,4 +142,13 @@ pub(crate) fn put_letters(buffer: &mut [u8], at: usize, letters: &[u8]) -> usize
         i += 1;
     }
     at + i
+}
+
+// Stores the newline that ends a line at `at`.
+pub(crate) fn end_line(buffer: &mut [u8], at: usize) -> usize
+    requires { ⌜ at + 1 ≤ farthest ⌝ }
+    ensures { λ r. ⌜ Put (10 ∷ []) at 1 (now (buffer .entry)) r (now (buffer .exit)) ⌝ }
+{
+    layout::put1(buffer, at, b'\n');
+    at + 1
 }

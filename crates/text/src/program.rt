@@ -1,16 +1,12 @@
-// What the program prints, step by step: how it begins, the text of each message's answer, and its last line.
+// What the program prints, step by step: how it begins, the text of each message, and its last line.
 // Each step writes its text to the beginning of a buffer; LONGEST_TEXT bytes hold any.
-ghost use mathlib.Core.List.{[], _∷_};
 ghost use mathlib.Core.Path.{_≡_};
-ghost use Prim.Native.Nat.{_+_, _≤_, _<_, min};
-ghost use lib.ListN.{length};
+ghost use Prim.Native.Nat.{_+_, _≤_};
 ghost use Rattle.text.specs.Text.{Put};
-ghost use Rattle.text.specs.Output.{lastLine, refusedLine, answerText, linesFrom, mostLines};
-ghost use Rattle.text.specs.Program.{longestText, beginText, beginOf, startAfter, counted, Serves, finishText};
+ghost use Rattle.text.specs.Program.{beginText, beginOf, startAfter, counted, Serves, finishText};
 use crate::line;
-use account::Entries;
-use entry::EntryReading;
-use register::Answer;
+use crate::turns;
+use filing::Entries;
 use register::Passed;
 use register::Register;
 
@@ -69,18 +65,16 @@ pub fn serve(served: Served, input: &[u8], out: &mut [u8]) -> Served
         };
     }
     let rest = &input[from..];
-    let mut entries = [0u8; entry::LONGEST_CALL];
-    let called = before.call(rest, &mut entries);
-    let answer = called.answer;
-    let following = called.register;
-    let passed = register::passed_by(answer, message::whole_length(layout::number1(rest, 0)));
-    let written = put_answer(out, answer, &entries);
+    let turned = turns::read_turn(before, message::read_message(rest), out);
+    let following = turned.register;
+    let reply = turned.reply;
+    let passed = register::passed_by(reply, message::whole_length(layout::number1(rest, 0)));
     Served {
         register: following,
         from: start_after(from, passed, input.len()),
         met: counted_by(served.met, 1),
         refused: counted_by(served.refused, passed.refused),
-        written,
+        written: turned.written,
     }
 }
 
@@ -91,7 +85,9 @@ pub fn finish(served: Served, input: &[u8], out: &mut [u8]) -> usize
     if input.len() > LONGEST_INPUT {
         return 0;
     }
-    put_last_line(out, served.met, served.refused)
+    let met = line::put_named(out, b"end", served.met);
+    let refused = line::put_number(out, met, served.refused);
+    line::end_line(out, refused)
 }
 
 // Where the next message starts; the end of the input where there is none.
@@ -115,60 +111,4 @@ fn counted_by(count: u32, by: usize) -> u32
     } else {
         count
     }
-}
-
-// Stores the text of an answer: the lines of its entries, or its refusal.
-fn put_answer(out: &mut [u8], answer: Answer, entries: &[u8]) -> usize
-    ensures { λ r. ⌜ Put (answerText answer (now (entries .entry))) 0 longestText (now (out .entry)) r (now (out .exit)) ⌝ }
-{
-    let Answer::Taken(_, written) = answer else {
-        return put_refusal(out, register::refusal_of(answer));
-    };
-    let end = least(written, entries.len());
-    put_lines(out, &entries[..end])
-}
-
-// Stores the line of a refusal.
-fn put_refusal(out: &mut [u8], number: u8) -> usize
-    ensures { λ r. ⌜ Put (refusedLine number) 0 19 (now (out .entry)) r (now (out .exit)) ⌝ }
-{
-    let named = line::put_letters(out, 0, b"refused");
-    let numbered = line::put_number(out, named, number as u32);
-    line::put_letters(out, numbered, b"\n")
-}
-
-// Stores the last line.
-fn put_last_line(out: &mut [u8], met: u32, refused: u32) -> usize
-    ensures { λ r. ⌜ Put (lastLine met refused) 0 26 (now (out .entry)) r (now (out .exit)) ⌝ }
-{
-    let named = line::put_letters(out, 0, b"end");
-    let first = line::put_number(out, named, met);
-    let second = line::put_number(out, first, refused);
-    line::put_letters(out, second, b"\n")
-}
-
-// Stores the lines of the entries that stand one behind the other.
-fn put_lines(out: &mut [u8], entries: &[u8]) -> usize
-    ensures { λ r. ⌜ Put (linesFrom mostLines (now (entries .entry))) 0 longestText (now (out .entry)) r (now (out .exit)) ⌝ }
-{
-    let mut at: usize = 0;
-    let mut from: usize = 0;
-    let mut i: usize = 0;
-    while i < Entries::MOST {
-        let reading = entry::read_entry(&entries[from..]);
-        let EntryReading::Found(found, account, whole) = reading else {
-            return at;
-        };
-        at = line::put_line(out, at, found, account);
-        from += whole;
-        i += 1;
-    }
-    at
-}
-
-// The smaller of two numbers.
-fn least(one: usize, other: usize) -> usize
-    ensures { λ r. ⌜ r ≡ min one other ⌝ }
-{
-    if one < other { one } else { other }
 }

@@ -1,9 +1,10 @@
 // The names of entries and events.
 ghost use mathlib.Core.Path.{_≡_};
-ghost use Rattle.text.specs.Text.{nameOf, eventName};
+ghost use Rattle.text.specs.Text.{voteName, nameOf, eventName};
 ghost use Rattle.text.specs.Words.{wordOf};
-use account::Told;
 use events::Event;
+use filing::Told;
+use filing::Verdict;
 
 // A name of at most eight letters; the places after it hold spaces.
 pub(crate) struct Word {
@@ -16,18 +17,10 @@ pub(crate) fn name(told: Told) -> Word
     ensures { λ r. ⌜ r ≡ wordOf (nameOf told) ⌝ }
 {
     match told {
-        Told::Accepted(_, _) => Word {
-            length: 8,
-            letters: [b'a', b'c', b'c', b'e', b'p', b't', b'e', b'd'],
-        },
-        Told::Rejected(_, _) => Word {
-            length: 8,
-            letters: [b'r', b'e', b'j', b'e', b'c', b't', b'e', b'd'],
-        },
-        Told::Held(_, _) => Word {
-            length: 4,
-            letters: [b'h', b'e', b'l', b'd', b' ', b' ', b' ', b' '],
-        },
+        Told::Voted(_, weighing) => {
+            let verdict = weighing.verdict;
+            vote_name(verdict)
+        }
         Told::Noted => Word {
             length: 5,
             letters: [b'n', b'o', b't', b'e', b'd', b' ', b' ', b' '],
@@ -39,6 +32,26 @@ pub(crate) fn name(told: Told) -> Word
         Told::Dropped(_) => Word {
             length: 7,
             letters: [b'd', b'r', b'o', b'p', b'p', b'e', b'd', b' '],
+        },
+    }
+}
+
+// A vote's name, by its verdict.
+fn vote_name(verdict: Verdict) -> Word
+    ensures { λ r. ⌜ r ≡ wordOf (voteName verdict) ⌝ }
+{
+    match verdict {
+        Verdict::Accepted => Word {
+            length: 8,
+            letters: [b'a', b'c', b'c', b'e', b'p', b't', b'e', b'd'],
+        },
+        Verdict::Rejected => Word {
+            length: 8,
+            letters: [b'r', b'e', b'j', b'e', b'c', b't', b'e', b'd'],
+        },
+        Verdict::Held => Word {
+            length: 4,
+            letters: [b'h', b'e', b'l', b'd', b' ', b' ', b' ', b' '],
         },
     }
 }

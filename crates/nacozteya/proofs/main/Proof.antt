@@ -64,7 +64,9 @@ loop-less : tie.Need-loop-less Inv-loop μ-loop
 loop-less c =
     let at-serve = c .before .before .before in
     let at-if1 = at-serve .before .before .before in
-    let at-read = at-if1 .before .before .before .before .before .before .before .before .before .before in
+    let at-loop = at-if1 .before .before in
+    let at-begin = at-loop .before .before .before .before in
+    let at-read = at-begin .before .before .before .before in
     let count = at-read .read-full .result in
     let input = at-read .read-full .last .1 .0 in
     let all : count ≤ length input = search needs in

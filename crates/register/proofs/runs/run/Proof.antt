@@ -3,22 +3,29 @@
 -- Assumes nothing.
 use Prim.Native.Nat.{ℕ, _-_, _≤_, _<_}
 use mathlib.Core.Path.{_≡_, sym, _∙_, ap}
-use mathlib.Core.Logic.{inl, inr, ⊎-elim}
-use mathlib.Core.Bool.{false}
+use mathlib.Core.Logic.{_⊎_, inl, inr, ⊎-elim}
 use mathlib.Core.List.{List}
 use native.Mathlib.Omega.{arith}
 use borrow.Author.Needs.{needs}
 use borrow.Rule.Slice.PartMut.{putMid}
-use lib.ListN.{length}
+use lib.ListN.{length, take, drop}
 use Rattle.account.specs.declared.Account.{Account}
+use Rattle.account.specs.declared.Stepped.{Stepped}
+use Rattle.account.specs.First.{stepOf}
 use Rattle.message.specs.declared.Message.{Message}
 use Rattle.message.specs.declared.Message.the-variants.{Request, Commit, Abort}
 use Rattle.message.specs.declared.Reading.the-variants as Reading′
+use Rattle.message.specs.Bytes.{headingOf}
 use Rattle.register.specs.declared.Register.{Register}
-use Rattle.register.specs.Run.{Run}
+use Rattle.register.specs.declared.Reply.{Reply}
+use Rattle.register.specs.declared.runs.Ran.{Ran}
+use Rattle.register.specs.declared.runs.Passed.{Passed}
+use Rattle.register.specs.Register.{accountAt, withAccount, ruleMessage}
+use Rattle.register.specs.Run.{Run, passedOf}
+use Rattle.register.specs.Helpers.{Filing, filedOf, Fitting}
 use Rattle.register.proofs.Suits.{first-suits}
 use Rattle.register.proofs.Underway.{Underway, starts, ends, Turn, countable, stops-there, goes-on, less-left}
-use Rattle.register.proofs.Turned.{Looked, turn-refused, named-low, turn-fits, turn-message, turn-on}
+use Rattle.register.proofs.Turned.{Looked, Goes, turn-refused, named-low, turn-fits, message-goes}
 use Rattle.register.proofs.runs.run.Statement.{statement}
 use Rattle.register.proofs.runs.run.Tie as tie
 
@@ -163,30 +170,67 @@ loop-again c =
     (goes-on _ first-suits (start .args .messages .now) (start .args .entries .now) (register v) (v .loop .ran) (v .loop .entries) (register v) (passed .passed-over .result) (v .loop .entries)
     (v .loop .inv) (refused-turn passed) (more at-room) (c .if2 .left))
 
--- A request.
-enum-known-message : tie.Need-enum-known-message Inv-loop μ-loop
-enum-known-message c = search needs
+-- A message, of any kind: it names one of the sixteen, what its account makes of it has room, and the run goes on behind it.
+roomy : (c : tie.After-with-room Inv-loop μ-loop) → let v = at-loop c .loop in v .ran .written ≤ length (v .entries)
+roomy c = at-loop c .loop .inv .room
 
-cast-at : tie.Need-cast-at Inv-loop μ-loop
-cast-at c = search needs
+-- the entry buffer with what was filed in its free part
+abbrev leftAt : tie.After-with-room Inv-loop μ-loop → (last : List ℕ) → List ℕ
+leftAt c last = let v = at-loop c .loop in putMid (v .ran .written) (length (v .entries) - v .ran .written) (v .entries) last
 
--- the message, and what was read
-abbrev requested-message : tie.After-message Inv-loop μ-loop → Message
-requested-message c = let said = c .message .given in Request (said .0 .0) (said .0 .1 .0)
+abbrev GoesAt : tie.After-with-room Inv-loop μ-loop → Passed → List Account → (last : List ℕ) → Type 0
+GoesAt c passed accounts last =
+    let v = at-loop c in
+    let a = began v .args in
+    Goes _ first-suits (a .messages .now) (a .entries .now) (v .loop .ran) passed (as-register accounts) (leftAt c last)
+
+module _ (c : tie.After-with-room Inv-loop μ-loop) (m : Message) (consumed : ℕ) (e : c .with-room .result ≡ Reading′.Message m consumed) where
+  abbrev bytes : List ℕ
+  bytes = began (at-loop c) .args .messages .now
+
+  abbrev ran : Ran
+  ran = at-loop c .loop .ran
+
+  abbrev entries : List ℕ
+  entries = at-loop c .loop .entries
+
+  low : headingOf m .account < 16
+  low = named-low _ first-suits bytes (register (at-loop c)) ran entries _ _ _ _ (looked c) m consumed e
+
+  module _ (stepped : Stepped) (s : stepped ≡ stepOf (accountAt (register (at-loop c)) (headingOf m .account)) (ruleMessage m)) where
+    fits : Fitting (stepped .entries) (headingOf m .account) (take (length entries - ran .written) (drop (ran .written) entries))
+    fits = turn-fits _ first-suits bytes (register (at-loop c)) ran entries _ _ _ _ (looked c) m consumed e stepped s
+
+    abbrev filed : Filing
+    filed = filedOf (stepped .answer) (stepped .entries) (headingOf m .account) (c .before .before .whole-length .result) (take (length entries - ran .written) (drop (ran .written) entries))
+
+    goes : (reply : Reply) (passed : Passed) → reply ≡ filed .reply → passed ≡ passedOf reply (c .before .before .whole-length .result) → (last : List ℕ) (accounts : List Account) → last ≡ filed .buffer
+        → ((passed .refused ≡ 0) × (as-register accounts ≡ withAccount (register (at-loop c)) (headingOf m .account) (stepped .account))) ⊎ ((passed .refused ≡ 0 → ⊥) × (as-register accounts ≡ register (at-loop c)))
+        → GoesAt c passed accounts last
+    goes reply passed a p last accounts b came =
+        message-goes _ first-suits bytes (register (at-loop c)) ran entries _ _ _ _ (looked c) m consumed e stepped s reply passed a p last (as-register accounts) b came
+        (began (at-loop c) .args .entries .now) (at-loop c .loop .inv) (more c)
+
+-- A request: the message, where it was read, and that it names one of the sixteen.
+abbrev requested : tie.After-message Inv-loop μ-loop → Message
+requested c = let said = c .message .given in Request (said .0 .0) (said .0 .1 .0)
 
 abbrev requested-room : tie.After-message Inv-loop μ-loop → tie.After-with-room Inv-loop μ-loop
 requested-room c = c .before .before .before .before .before
 
-requested-read : (c : tie.After-message Inv-loop μ-loop) → requested-room c .with-room .result ≡ Reading′.Message (requested-message c) (c .before .before .before .reading .given .0 .1 .0)
+requested-read : (c : tie.After-message Inv-loop μ-loop) → requested-room c .with-room .result ≡ Reading′.Message (requested c) (c .before .before .before .reading .given .0 .1 .0)
 requested-read c =
     let read = c .before .before .before .reading .given in
     read .1 ∙ ap (λ (m : Message). Reading′.Message m (read .0 .1 .0)) (c .message .given .1)
 
 requested-low : (c : tie.After-message Inv-loop μ-loop) → c .message .given .0 .0 .account < 16
-requested-low c =
-    let at-room = requested-room c in
-    let v = at-loop at-room in
-    named-low _ first-suits (began v .args .messages .now) (register v) (v .loop .ran) (v .loop .entries) _ _ _ _ (looked at-room) (requested-message c) _ (requested-read c)
+requested-low c = low (requested-room c) (requested c) _ (requested-read c)
+
+enum-known-message : tie.Need-enum-known-message Inv-loop μ-loop
+enum-known-message c = search needs
+
+cast-at : tie.Need-cast-at Inv-loop μ-loop
+cast-at c = search needs
 
 mul-account : tie.Need-mul-account Inv-loop μ-loop
 mul-account c = record { fits = omega (arith, requested-low (c .before .before .before)) }
@@ -197,45 +241,32 @@ array-copy-out-account c = requested-low (c .before .before .before)
 request-requires : tie.Need-request-requires Inv-loop μ-loop
 request-requires c κs = search needs
 
--- what is written so far is within the buffer
-requested-roomy : (c : tie.After-request Inv-loop μ-loop) → let v = at-loop (requested-room (c .before .before .before .before .before)) in v .loop .ran .written ≤ length (v .loop .entries)
-requested-roomy c = at-loop (requested-room (c .before .before .before .before .before)) .loop .inv .room
+abbrev requested-message : tie.After-request Inv-loop μ-loop → tie.After-message Inv-loop μ-loop
+requested-message c = c .before .before .before .before .before
 
 sub-file : tie.Need-sub-file Inv-loop μ-loop
-sub-file c = requested-roomy (c .before)
+sub-file c = roomy (requested-room (requested-message c))
 
 part-file-start : tie.Need-part-file-start Inv-loop μ-loop
-part-file-start c = requested-roomy (c .before)
+part-file-start c = roomy (requested-room (requested-message c))
 
 part-file-end : tie.Need-part-file-end Inv-loop μ-loop
 part-file-end c = search needs
 
 file-requires : tie.Need-file-requires Inv-loop μ-loop
 file-requires c κs =
-    let stepped = c .before .before in
-    let message = stepped .before .before .before .before .before in
-    let at-room = requested-room message in
-    let v = at-loop at-room in
-    turn-fits _ first-suits (began v .args .messages .now) (register v) (v .loop .ran) (v .loop .entries) _ _ _ _ (looked at-room) (requested-message message) _ (requested-read message)
-    (stepped .request .result) (stepped .request .ensures)
+    let message = requested-message (c .before) in
+    fits (requested-room message) (requested message) _ (requested-read message) (c .before .request .result) (c .before .request .ensures)
 
 passed-by-requires : tie.Need-passed-by-requires Inv-loop μ-loop
 passed-by-requires c κs = search needs
 
--- the account's step, once the message has been counted as passed; and what the run has then
+-- once it has been counted as passed
 abbrev requested-filed : tie.After-struct-known3 Inv-loop μ-loop → tie.After-file Inv-loop μ-loop
 requested-filed c = c .before .before .before .before
 
-abbrev requested-step : tie.After-struct-known3 Inv-loop μ-loop → tie.After-request Inv-loop μ-loop
-requested-step c = requested-filed c .before .before .before
-
 abbrev requested-named : tie.After-struct-known3 Inv-loop μ-loop → tie.After-message Inv-loop μ-loop
-requested-named c = requested-step c .before .before .before .before .before
-
-abbrev requested-left : tie.After-struct-known3 Inv-loop μ-loop → List ℕ
-requested-left c =
-    let v = at-loop (requested-room (requested-named c)) .loop in
-    putMid (v .ran .written) (length (v .entries) - v .ran .written) (v .entries) (requested-filed c .file .last .1 .1 .1 .1 .0)
+requested-named c = requested-message (requested-filed c .before .before)
 
 mul-accounts : tie.Need-mul-accounts Inv-loop μ-loop
 mul-accounts c = record { fits = omega (arith, requested-low (requested-named (c .before .before))) }
@@ -243,83 +274,49 @@ mul-accounts c = record { fits = omega (arith, requested-low (requested-named (c
 array-set-from-accounts : tie.Need-array-set-from-accounts Inv-loop μ-loop
 array-set-from-accounts c = requested-low (requested-named (c .before .before))
 
-requested-turn : (c : tie.Joined3 Inv-loop μ-loop) → let v = at-loop (requested-room (requested-named (c .before))) in
-    Turn _ first-suits (began v .args .messages .now) (register v) (v .loop .ran) (v .loop .entries) (record { accounts = c .if3 .accounts }) (c .before .before .passed-by .result) (requested-left (c .before))
-requested-turn c =
+requested-goes : (c : tie.Joined3 Inv-loop μ-loop)
+    → GoesAt (requested-room (requested-named (c .before))) (c .before .before .passed-by .result) (c .if3 .accounts) (requested-filed (c .before) .file .last .1 .1 .1 .1 .0)
+requested-goes c =
     let passed = c .before .before .passed-by in
-    let filed = requested-filed (c .before) .file in
-    let stepped = requested-step (c .before) .request in
+    let at-file = requested-filed (c .before) in
+    let filed = at-file .file in
+    let stepped = at-file .before .before .request in
     let message = requested-named (c .before) in
-    let at-room = requested-room message in
-    let v = at-loop at-room in
-    turn-message _ first-suits (began v .args .messages .now) (register v) (v .loop .ran) (v .loop .entries) _ _ _ _ (looked at-room) (requested-message message) _ (requested-read message)
-    (stepped .result) (stepped .ensures) (filed .result) (passed .result) (filed .last .1 .1 .1 .1 .0) (record { accounts = c .if3 .accounts })
-    (filed .ensures .0) (filed .ensures .1) (passed .ensures)
+    goes (requested-room message) (requested message) _ (requested-read message) (stepped .result) (stepped .ensures) (filed .result) (passed .result) (filed .ensures .0) (passed .ensures)
+    (filed .last .1 .1 .1 .1 .0) (c .if3 .accounts) (filed .ensures .1)
     (⊎-elim (λ z. inl (z .0 .taken, ap as-register (z .2))) (λ z. inr (z .0 .left, ap as-register (z .1))) (c .if3 .came))
-
-requested-on : (c : tie.Joined3 Inv-loop μ-loop) → c .before .before .passed-by .result .stops ≡ false
-requested-on c =
-    let passed = c .before .before .passed-by in
-    let filed = requested-filed (c .before) .file in
-    let stepped = requested-step (c .before) .request in
-    let message = requested-named (c .before) in
-    let at-room = requested-room message in
-    let v = at-loop at-room in
-    turn-on _ first-suits (began v .args .messages .now) (register v) (v .loop .ran) (v .loop .entries) _ _ _ _ (looked at-room) (requested-message message) _ (requested-read message)
-    (stepped .result) (stepped .ensures) (filed .result) (passed .result) (filed .ensures .0) (passed .ensures)
 
 with-message-requires-2 : tie.Need-with-message-requires-2 Inv-loop μ-loop
 with-message-requires-2 c κs =
-    let at-room = requested-room (requested-named (c .before)) in
-    let v = at-loop at-room in
-    let start = began v in
-    (countable _ first-suits (start .args .messages .now) (start .args .entries .now) (register v) (v .loop .ran) (v .loop .entries) (record { accounts = c .if3 .accounts })
-    (c .before .before .passed-by .result) (requested-left (c .before)) (v .loop .inv) (requested-turn c) (more at-room) (start .good .0 .0) (start .good .1 .0 .0))
+    let good = began (at-loop (requested-room (requested-named (c .before)))) .good in
+    requested-goes c .counts (good .0 .0) (good .1 .0 .0)
 
 loop-less-2 : tie.Need-loop-less-2 Inv-loop μ-loop
-loop-less-2 c =
-    let joined = c .before in
-    let at-room = requested-room (requested-named (joined .before)) in
-    let v = at-loop at-room in
-    let start = began v in
-    rw (c .with-message2 .ensures)
-    (less-left _ first-suits (start .args .messages .now) (start .args .entries .now) (register v) (v .loop .ran) (v .loop .entries) (record { accounts = joined .if3 .accounts })
-    (joined .before .before .passed-by .result) (requested-left (joined .before)) (v .loop .inv) (requested-turn joined) (more at-room) (requested-on joined))
+loop-less-2 c = rw (c .with-message2 .ensures) (requested-goes (c .before) .less)
 
 loop-again-2 : tie.Need-loop-again-2 Inv-loop μ-loop
-loop-again-2 c =
-    let joined = c .before in
-    let at-room = requested-room (requested-named (joined .before)) in
-    let v = at-loop at-room in
-    let start = began v in
-    rw (c .with-message2 .ensures)
-    (goes-on _ first-suits (start .args .messages .now) (start .args .entries .now) (register v) (v .loop .ran) (v .loop .entries) (record { accounts = joined .if3 .accounts })
-    (joined .before .before .passed-by .result) (requested-left (joined .before)) (v .loop .inv) (requested-turn joined) (more at-room) (requested-on joined))
+loop-again-2 c = rw (c .with-message2 .ensures) (requested-goes (c .before) .again)
 
--- A commit.
-enum-known-message-2 : tie.Need-enum-known-message-2 Inv-loop μ-loop
-enum-known-message-2 c = search needs
-
-cast-at-2 : tie.Need-cast-at-2 Inv-loop μ-loop
-cast-at-2 c = search needs
-
--- the message, and what was read
-abbrev committed-message : tie.After-message2 Inv-loop μ-loop → Message
-committed-message c = let said = c .message2 .given in Commit (said .0 .0)
+-- A commit, in the same way.
+abbrev committed : tie.After-message2 Inv-loop μ-loop → Message
+committed c = let said = c .message2 .given in Commit (said .0 .0)
 
 abbrev committed-room : tie.After-message2 Inv-loop μ-loop → tie.After-with-room Inv-loop μ-loop
 committed-room c = c .before .before .before .before .before
 
-committed-read : (c : tie.After-message2 Inv-loop μ-loop) → committed-room c .with-room .result ≡ Reading′.Message (committed-message c) (c .before .before .before .reading .given .0 .1 .0)
+committed-read : (c : tie.After-message2 Inv-loop μ-loop) → committed-room c .with-room .result ≡ Reading′.Message (committed c) (c .before .before .before .reading .given .0 .1 .0)
 committed-read c =
     let read = c .before .before .before .reading .given in
     read .1 ∙ ap (λ (m : Message). Reading′.Message m (read .0 .1 .0)) (c .message2 .given .1)
 
 committed-low : (c : tie.After-message2 Inv-loop μ-loop) → c .message2 .given .0 .0 .account < 16
-committed-low c =
-    let at-room = committed-room c in
-    let v = at-loop at-room in
-    named-low _ first-suits (began v .args .messages .now) (register v) (v .loop .ran) (v .loop .entries) _ _ _ _ (looked at-room) (committed-message c) _ (committed-read c)
+committed-low c = low (committed-room c) (committed c) _ (committed-read c)
+
+enum-known-message-2 : tie.Need-enum-known-message-2 Inv-loop μ-loop
+enum-known-message-2 c = search needs
+
+cast-at-2 : tie.Need-cast-at-2 Inv-loop μ-loop
+cast-at-2 c = search needs
 
 mul-account-2 : tie.Need-mul-account-2 Inv-loop μ-loop
 mul-account-2 c = record { fits = omega (arith, committed-low (c .before .before .before)) }
@@ -330,45 +327,32 @@ array-copy-out-account-2 c = committed-low (c .before .before .before)
 commit-requires : tie.Need-commit-requires Inv-loop μ-loop
 commit-requires c κs = search needs
 
--- what is written so far is within the buffer
-committed-roomy : (c : tie.After-commit Inv-loop μ-loop) → let v = at-loop (committed-room (c .before .before .before .before .before)) in v .loop .ran .written ≤ length (v .loop .entries)
-committed-roomy c = at-loop (committed-room (c .before .before .before .before .before)) .loop .inv .room
+abbrev committed-message : tie.After-commit Inv-loop μ-loop → tie.After-message2 Inv-loop μ-loop
+committed-message c = c .before .before .before .before .before
 
 sub-file-2 : tie.Need-sub-file-2 Inv-loop μ-loop
-sub-file-2 c = committed-roomy (c .before)
+sub-file-2 c = roomy (committed-room (committed-message c))
 
 part-file-start-2 : tie.Need-part-file-start-2 Inv-loop μ-loop
-part-file-start-2 c = committed-roomy (c .before)
+part-file-start-2 c = roomy (committed-room (committed-message c))
 
 part-file-end-2 : tie.Need-part-file-end-2 Inv-loop μ-loop
 part-file-end-2 c = search needs
 
 file-requires-2 : tie.Need-file-requires-2 Inv-loop μ-loop
 file-requires-2 c κs =
-    let stepped = c .before .before in
-    let message = stepped .before .before .before .before .before in
-    let at-room = committed-room message in
-    let v = at-loop at-room in
-    turn-fits _ first-suits (began v .args .messages .now) (register v) (v .loop .ran) (v .loop .entries) _ _ _ _ (looked at-room) (committed-message message) _ (committed-read message)
-    (stepped .commit .result) (stepped .commit .ensures)
+    let message = committed-message (c .before) in
+    fits (committed-room message) (committed message) _ (committed-read message) (c .before .commit .result) (c .before .commit .ensures)
 
 passed-by-requires-2 : tie.Need-passed-by-requires-2 Inv-loop μ-loop
 passed-by-requires-2 c κs = search needs
 
--- the account's step, once the message has been counted as passed; and what the run has then
+-- once it has been counted as passed
 abbrev committed-filed : tie.After-struct-known5 Inv-loop μ-loop → tie.After-file2 Inv-loop μ-loop
 committed-filed c = c .before .before .before .before
 
-abbrev committed-step : tie.After-struct-known5 Inv-loop μ-loop → tie.After-commit Inv-loop μ-loop
-committed-step c = committed-filed c .before .before .before
-
 abbrev committed-named : tie.After-struct-known5 Inv-loop μ-loop → tie.After-message2 Inv-loop μ-loop
-committed-named c = committed-step c .before .before .before .before .before
-
-abbrev committed-left : tie.After-struct-known5 Inv-loop μ-loop → List ℕ
-committed-left c =
-    let v = at-loop (committed-room (committed-named c)) .loop in
-    putMid (v .ran .written) (length (v .entries) - v .ran .written) (v .entries) (committed-filed c .file2 .last .1 .1 .1 .1 .0)
+committed-named c = committed-message (committed-filed c .before .before)
 
 mul-accounts-2 : tie.Need-mul-accounts-2 Inv-loop μ-loop
 mul-accounts-2 c = record { fits = omega (arith, committed-low (committed-named (c .before .before))) }
@@ -376,83 +360,49 @@ mul-accounts-2 c = record { fits = omega (arith, committed-low (committed-named 
 array-set-from-accounts-2 : tie.Need-array-set-from-accounts-2 Inv-loop μ-loop
 array-set-from-accounts-2 c = committed-low (committed-named (c .before .before))
 
-committed-turn : (c : tie.Joined4 Inv-loop μ-loop) → let v = at-loop (committed-room (committed-named (c .before))) in
-    Turn _ first-suits (began v .args .messages .now) (register v) (v .loop .ran) (v .loop .entries) (record { accounts = c .if4 .accounts }) (c .before .before .passed-by2 .result) (committed-left (c .before))
-committed-turn c =
+committed-goes : (c : tie.Joined4 Inv-loop μ-loop)
+    → GoesAt (committed-room (committed-named (c .before))) (c .before .before .passed-by2 .result) (c .if4 .accounts) (committed-filed (c .before) .file2 .last .1 .1 .1 .1 .0)
+committed-goes c =
     let passed = c .before .before .passed-by2 in
-    let filed = committed-filed (c .before) .file2 in
-    let stepped = committed-step (c .before) .commit in
+    let at-file = committed-filed (c .before) in
+    let filed = at-file .file2 in
+    let stepped = at-file .before .before .commit in
     let message = committed-named (c .before) in
-    let at-room = committed-room message in
-    let v = at-loop at-room in
-    turn-message _ first-suits (began v .args .messages .now) (register v) (v .loop .ran) (v .loop .entries) _ _ _ _ (looked at-room) (committed-message message) _ (committed-read message)
-    (stepped .result) (stepped .ensures) (filed .result) (passed .result) (filed .last .1 .1 .1 .1 .0) (record { accounts = c .if4 .accounts })
-    (filed .ensures .0) (filed .ensures .1) (passed .ensures)
+    goes (committed-room message) (committed message) _ (committed-read message) (stepped .result) (stepped .ensures) (filed .result) (passed .result) (filed .ensures .0) (passed .ensures)
+    (filed .last .1 .1 .1 .1 .0) (c .if4 .accounts) (filed .ensures .1)
     (⊎-elim (λ z. inl (z .0 .taken, ap as-register (z .2))) (λ z. inr (z .0 .left, ap as-register (z .1))) (c .if4 .came))
-
-committed-on : (c : tie.Joined4 Inv-loop μ-loop) → c .before .before .passed-by2 .result .stops ≡ false
-committed-on c =
-    let passed = c .before .before .passed-by2 in
-    let filed = committed-filed (c .before) .file2 in
-    let stepped = committed-step (c .before) .commit in
-    let message = committed-named (c .before) in
-    let at-room = committed-room message in
-    let v = at-loop at-room in
-    turn-on _ first-suits (began v .args .messages .now) (register v) (v .loop .ran) (v .loop .entries) _ _ _ _ (looked at-room) (committed-message message) _ (committed-read message)
-    (stepped .result) (stepped .ensures) (filed .result) (passed .result) (filed .ensures .0) (passed .ensures)
 
 with-message-requires-3 : tie.Need-with-message-requires-3 Inv-loop μ-loop
 with-message-requires-3 c κs =
-    let at-room = committed-room (committed-named (c .before)) in
-    let v = at-loop at-room in
-    let start = began v in
-    (countable _ first-suits (start .args .messages .now) (start .args .entries .now) (register v) (v .loop .ran) (v .loop .entries) (record { accounts = c .if4 .accounts })
-    (c .before .before .passed-by2 .result) (committed-left (c .before)) (v .loop .inv) (committed-turn c) (more at-room) (start .good .0 .0) (start .good .1 .0 .0))
+    let good = began (at-loop (committed-room (committed-named (c .before)))) .good in
+    committed-goes c .counts (good .0 .0) (good .1 .0 .0)
 
 loop-less-3 : tie.Need-loop-less-3 Inv-loop μ-loop
-loop-less-3 c =
-    let joined = c .before in
-    let at-room = committed-room (committed-named (joined .before)) in
-    let v = at-loop at-room in
-    let start = began v in
-    rw (c .with-message3 .ensures)
-    (less-left _ first-suits (start .args .messages .now) (start .args .entries .now) (register v) (v .loop .ran) (v .loop .entries) (record { accounts = joined .if4 .accounts })
-    (joined .before .before .passed-by2 .result) (committed-left (joined .before)) (v .loop .inv) (committed-turn joined) (more at-room) (committed-on joined))
+loop-less-3 c = rw (c .with-message3 .ensures) (committed-goes (c .before) .less)
 
 loop-again-3 : tie.Need-loop-again-3 Inv-loop μ-loop
-loop-again-3 c =
-    let joined = c .before in
-    let at-room = committed-room (committed-named (joined .before)) in
-    let v = at-loop at-room in
-    let start = began v in
-    rw (c .with-message3 .ensures)
-    (goes-on _ first-suits (start .args .messages .now) (start .args .entries .now) (register v) (v .loop .ran) (v .loop .entries) (record { accounts = joined .if4 .accounts })
-    (joined .before .before .passed-by2 .result) (committed-left (joined .before)) (v .loop .inv) (committed-turn joined) (more at-room) (committed-on joined))
+loop-again-3 c = rw (c .with-message3 .ensures) (committed-goes (c .before) .again)
 
--- An abort.
-enum-known-message-3 : tie.Need-enum-known-message-3 Inv-loop μ-loop
-enum-known-message-3 c = search needs
-
-cast-at-3 : tie.Need-cast-at-3 Inv-loop μ-loop
-cast-at-3 c = search needs
-
--- the message, and what was read
-abbrev aborted-message : tie.After-message3 Inv-loop μ-loop → Message
-aborted-message c = let said = c .message3 .given in Abort (said .0 .0)
+-- And an abort.
+abbrev aborted : tie.After-message3 Inv-loop μ-loop → Message
+aborted c = let said = c .message3 .given in Abort (said .0 .0)
 
 abbrev aborted-room : tie.After-message3 Inv-loop μ-loop → tie.After-with-room Inv-loop μ-loop
 aborted-room c = c .before .before .before .before .before
 
-aborted-read : (c : tie.After-message3 Inv-loop μ-loop) → aborted-room c .with-room .result ≡ Reading′.Message (aborted-message c) (c .before .before .before .reading .given .0 .1 .0)
+aborted-read : (c : tie.After-message3 Inv-loop μ-loop) → aborted-room c .with-room .result ≡ Reading′.Message (aborted c) (c .before .before .before .reading .given .0 .1 .0)
 aborted-read c =
     let read = c .before .before .before .reading .given in
     read .1 ∙ ap (λ (m : Message). Reading′.Message m (read .0 .1 .0)) (c .message3 .given .1)
 
 aborted-low : (c : tie.After-message3 Inv-loop μ-loop) → c .message3 .given .0 .0 .account < 16
-aborted-low c =
-    let at-room = aborted-room c in
-    let v = at-loop at-room in
-    named-low _ first-suits (began v .args .messages .now) (register v) (v .loop .ran) (v .loop .entries) _ _ _ _ (looked at-room) (aborted-message c) _ (aborted-read c)
+aborted-low c = low (aborted-room c) (aborted c) _ (aborted-read c)
+
+enum-known-message-3 : tie.Need-enum-known-message-3 Inv-loop μ-loop
+enum-known-message-3 c = search needs
+
+cast-at-3 : tie.Need-cast-at-3 Inv-loop μ-loop
+cast-at-3 c = search needs
 
 mul-account-3 : tie.Need-mul-account-3 Inv-loop μ-loop
 mul-account-3 c = record { fits = omega (arith, aborted-low (c .before .before .before)) }
@@ -463,45 +413,32 @@ array-copy-out-account-3 c = aborted-low (c .before .before .before)
 abort-requires : tie.Need-abort-requires Inv-loop μ-loop
 abort-requires c κs = search needs
 
--- what is written so far is within the buffer
-aborted-roomy : (c : tie.After-abort Inv-loop μ-loop) → let v = at-loop (aborted-room (c .before .before .before .before .before)) in v .loop .ran .written ≤ length (v .loop .entries)
-aborted-roomy c = at-loop (aborted-room (c .before .before .before .before .before)) .loop .inv .room
+abbrev aborted-message : tie.After-abort Inv-loop μ-loop → tie.After-message3 Inv-loop μ-loop
+aborted-message c = c .before .before .before .before .before
 
 sub-file-3 : tie.Need-sub-file-3 Inv-loop μ-loop
-sub-file-3 c = aborted-roomy (c .before)
+sub-file-3 c = roomy (aborted-room (aborted-message c))
 
 part-file-start-3 : tie.Need-part-file-start-3 Inv-loop μ-loop
-part-file-start-3 c = aborted-roomy (c .before)
+part-file-start-3 c = roomy (aborted-room (aborted-message c))
 
 part-file-end-3 : tie.Need-part-file-end-3 Inv-loop μ-loop
 part-file-end-3 c = search needs
 
 file-requires-3 : tie.Need-file-requires-3 Inv-loop μ-loop
 file-requires-3 c κs =
-    let stepped = c .before .before in
-    let message = stepped .before .before .before .before .before in
-    let at-room = aborted-room message in
-    let v = at-loop at-room in
-    turn-fits _ first-suits (began v .args .messages .now) (register v) (v .loop .ran) (v .loop .entries) _ _ _ _ (looked at-room) (aborted-message message) _ (aborted-read message)
-    (stepped .abort .result) (stepped .abort .ensures)
+    let message = aborted-message (c .before) in
+    fits (aborted-room message) (aborted message) _ (aborted-read message) (c .before .abort .result) (c .before .abort .ensures)
 
 passed-by-requires-3 : tie.Need-passed-by-requires-3 Inv-loop μ-loop
 passed-by-requires-3 c κs = search needs
 
--- the account's step, once the message has been counted as passed; and what the run has then
+-- once it has been counted as passed
 abbrev aborted-filed : tie.After-struct-known7 Inv-loop μ-loop → tie.After-file3 Inv-loop μ-loop
 aborted-filed c = c .before .before .before .before
 
-abbrev aborted-step : tie.After-struct-known7 Inv-loop μ-loop → tie.After-abort Inv-loop μ-loop
-aborted-step c = aborted-filed c .before .before .before
-
 abbrev aborted-named : tie.After-struct-known7 Inv-loop μ-loop → tie.After-message3 Inv-loop μ-loop
-aborted-named c = aborted-step c .before .before .before .before .before
-
-abbrev aborted-left : tie.After-struct-known7 Inv-loop μ-loop → List ℕ
-aborted-left c =
-    let v = at-loop (aborted-room (aborted-named c)) .loop in
-    putMid (v .ran .written) (length (v .entries) - v .ran .written) (v .entries) (aborted-filed c .file3 .last .1 .1 .1 .1 .0)
+aborted-named c = aborted-message (aborted-filed c .before .before)
 
 mul-accounts-3 : tie.Need-mul-accounts-3 Inv-loop μ-loop
 mul-accounts-3 c = record { fits = omega (arith, aborted-low (aborted-named (c .before .before))) }
@@ -509,58 +446,28 @@ mul-accounts-3 c = record { fits = omega (arith, aborted-low (aborted-named (c .
 array-set-from-accounts-3 : tie.Need-array-set-from-accounts-3 Inv-loop μ-loop
 array-set-from-accounts-3 c = aborted-low (aborted-named (c .before .before))
 
-aborted-turn : (c : tie.Joined5 Inv-loop μ-loop) → let v = at-loop (aborted-room (aborted-named (c .before))) in
-    Turn _ first-suits (began v .args .messages .now) (register v) (v .loop .ran) (v .loop .entries) (record { accounts = c .if5 .accounts }) (c .before .before .passed-by3 .result) (aborted-left (c .before))
-aborted-turn c =
+aborted-goes : (c : tie.Joined5 Inv-loop μ-loop)
+    → GoesAt (aborted-room (aborted-named (c .before))) (c .before .before .passed-by3 .result) (c .if5 .accounts) (aborted-filed (c .before) .file3 .last .1 .1 .1 .1 .0)
+aborted-goes c =
     let passed = c .before .before .passed-by3 in
-    let filed = aborted-filed (c .before) .file3 in
-    let stepped = aborted-step (c .before) .abort in
+    let at-file = aborted-filed (c .before) in
+    let filed = at-file .file3 in
+    let stepped = at-file .before .before .abort in
     let message = aborted-named (c .before) in
-    let at-room = aborted-room message in
-    let v = at-loop at-room in
-    turn-message _ first-suits (began v .args .messages .now) (register v) (v .loop .ran) (v .loop .entries) _ _ _ _ (looked at-room) (aborted-message message) _ (aborted-read message)
-    (stepped .result) (stepped .ensures) (filed .result) (passed .result) (filed .last .1 .1 .1 .1 .0) (record { accounts = c .if5 .accounts })
-    (filed .ensures .0) (filed .ensures .1) (passed .ensures)
+    goes (aborted-room message) (aborted message) _ (aborted-read message) (stepped .result) (stepped .ensures) (filed .result) (passed .result) (filed .ensures .0) (passed .ensures)
+    (filed .last .1 .1 .1 .1 .0) (c .if5 .accounts) (filed .ensures .1)
     (⊎-elim (λ z. inl (z .0 .taken, ap as-register (z .2))) (λ z. inr (z .0 .left, ap as-register (z .1))) (c .if5 .came))
-
-aborted-on : (c : tie.Joined5 Inv-loop μ-loop) → c .before .before .passed-by3 .result .stops ≡ false
-aborted-on c =
-    let passed = c .before .before .passed-by3 in
-    let filed = aborted-filed (c .before) .file3 in
-    let stepped = aborted-step (c .before) .abort in
-    let message = aborted-named (c .before) in
-    let at-room = aborted-room message in
-    let v = at-loop at-room in
-    turn-on _ first-suits (began v .args .messages .now) (register v) (v .loop .ran) (v .loop .entries) _ _ _ _ (looked at-room) (aborted-message message) _ (aborted-read message)
-    (stepped .result) (stepped .ensures) (filed .result) (passed .result) (filed .ensures .0) (passed .ensures)
 
 with-message-requires-4 : tie.Need-with-message-requires-4 Inv-loop μ-loop
 with-message-requires-4 c κs =
-    let at-room = aborted-room (aborted-named (c .before)) in
-    let v = at-loop at-room in
-    let start = began v in
-    (countable _ first-suits (start .args .messages .now) (start .args .entries .now) (register v) (v .loop .ran) (v .loop .entries) (record { accounts = c .if5 .accounts })
-    (c .before .before .passed-by3 .result) (aborted-left (c .before)) (v .loop .inv) (aborted-turn c) (more at-room) (start .good .0 .0) (start .good .1 .0 .0))
+    let good = began (at-loop (aborted-room (aborted-named (c .before)))) .good in
+    aborted-goes c .counts (good .0 .0) (good .1 .0 .0)
 
 loop-less-4 : tie.Need-loop-less-4 Inv-loop μ-loop
-loop-less-4 c =
-    let joined = c .before in
-    let at-room = aborted-room (aborted-named (joined .before)) in
-    let v = at-loop at-room in
-    let start = began v in
-    rw (c .with-message4 .ensures)
-    (less-left _ first-suits (start .args .messages .now) (start .args .entries .now) (register v) (v .loop .ran) (v .loop .entries) (record { accounts = joined .if5 .accounts })
-    (joined .before .before .passed-by3 .result) (aborted-left (joined .before)) (v .loop .inv) (aborted-turn joined) (more at-room) (aborted-on joined))
+loop-less-4 c = rw (c .with-message4 .ensures) (aborted-goes (c .before) .less)
 
 loop-again-4 : tie.Need-loop-again-4 Inv-loop μ-loop
-loop-again-4 c =
-    let joined = c .before in
-    let at-room = aborted-room (aborted-named (joined .before)) in
-    let v = at-loop at-room in
-    let start = began v in
-    rw (c .with-message4 .ensures)
-    (goes-on _ first-suits (start .args .messages .now) (start .args .entries .now) (register v) (v .loop .ran) (v .loop .entries) (record { accounts = joined .if5 .accounts })
-    (joined .before .before .passed-by3 .result) (aborted-left (joined .before)) (v .loop .inv) (aborted-turn joined) (more at-room) (aborted-on joined))
+loop-again-4 c = rw (c .with-message4 .ensures) (aborted-goes (c .before) .again)
 
 same-length-2 : tie.Need-same-length-2 Inv-loop μ-loop
 same-length-2 c = c .before .before .loop .inv .size

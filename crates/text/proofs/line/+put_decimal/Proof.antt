@@ -26,69 +26,33 @@ abbrev put-decimal-below : ℕ → In 1 put-decimal-kinds.ps
 put-decimal-below t =
     and 1 put-decimal-kinds.ps (falls 1 put-decimal-kinds.ps _<_ μ-put-decimal t) put-decimal.Pre
 
-put-decimal-returns : (t : ℕ) → put-decimal-lts.Need-returns (
-  digit-reads.Asked,
-  digit-reads.Learnt,
-  put1-reads.Asked,
-  put1-reads.Learnt,
-  put-decimal-below t,
-  put-decimal.Post,
-) (put-decimal-at t) put-decimal.Post
+-- what the calls ask, and what is learnt from them
+abbrev claims : ℕ → put-decimal-lts.Claims
+claims t =
+    (digit-reads.Asked, digit-reads.Learnt, put1-reads.Asked, put1-reads.Learnt, put-decimal-below t, put-decimal.Post)
+
+put-decimal-returns : (t : ℕ) → put-decimal-lts.Need-returns (claims t) (put-decimal-at t) put-decimal.Post
 put-decimal-returns t c =
     let a = c .before .before .args in
     decimal-none (a .places) (a .number) (a .at) (a .buffer .now) (c .if1 .taken)
 
-put-decimal-digit-requires : (t : ℕ) → put-decimal-lts.Need-digit-requires (
-  digit-reads.Asked,
-  digit-reads.Learnt,
-  put1-reads.Asked,
-  put1-reads.Learnt,
-  put-decimal-below t,
-  put-decimal.Post,
-) (put-decimal-at t) put-decimal.Post
+put-decimal-digit-requires : (t : ℕ) → put-decimal-lts.Need-digit-requires (claims t) (put-decimal-at t) put-decimal.Post
 put-decimal-digit-requires t c κs = c .before .if2 .taken
 
-put-decimal-put1-requires : (t : ℕ) → put-decimal-lts.Need-put1-requires (
-  digit-reads.Asked,
-  digit-reads.Learnt,
-  put1-reads.Asked,
-  put1-reads.Learnt,
-  put-decimal-below t,
-  put-decimal.Post,
-) (put-decimal-at t) put-decimal.Post
+put-decimal-put1-requires : (t : ℕ) → put-decimal-lts.Need-put1-requires (claims t) (put-decimal-at t) put-decimal.Post
 put-decimal-put1-requires t c κs = search needs
 
-put-decimal-add-result : (t : ℕ) → put-decimal-lts.Need-add-result (
-  digit-reads.Asked,
-  digit-reads.Learnt,
-  put1-reads.Asked,
-  put1-reads.Learnt,
-  put-decimal-below t,
-  put-decimal.Post,
-) (put-decimal-at t) put-decimal.Post
+put-decimal-add-result : (t : ℕ) → put-decimal-lts.Need-add-result (claims t) (put-decimal-at t) put-decimal.Post
 put-decimal-add-result t c =
-    let at-before = c .before .before .before .before .before .before .before in
-    let start = at-before .before in
-    omega (arith, start .pre .1 .0)
+    let at-put1 = c .before .before in
+    let at-if2 = at-put1 .before .before .before in
+    let start = at-if2 .before .before .before in
+    omega (arith, start .pre .1)
 
-put-decimal-same-length : (t : ℕ) → put-decimal-lts.Need-same-length (
-  digit-reads.Asked,
-  digit-reads.Learnt,
-  put1-reads.Asked,
-  put1-reads.Learnt,
-  put-decimal-below t,
-  put-decimal.Post,
-) (put-decimal-at t) put-decimal.Post
+put-decimal-same-length : (t : ℕ) → put-decimal-lts.Need-same-length (claims t) (put-decimal-at t) put-decimal.Post
 put-decimal-same-length t c = c .before .before .put1 .kept .0
 
-put-decimal-returns-2 : (t : ℕ) → put-decimal-lts.Need-returns-2 (
-  digit-reads.Asked,
-  digit-reads.Learnt,
-  put1-reads.Asked,
-  put1-reads.Learnt,
-  put-decimal-below t,
-  put-decimal.Post,
-) (put-decimal-at t) put-decimal.Post
+put-decimal-returns-2 : (t : ℕ) → put-decimal-lts.Need-returns-2 (claims t) (put-decimal-at t) put-decimal.Post
 put-decimal-returns-2 t c =
     let at-put1 = c .before .before in
     let at-digit = at-put1 .before in
@@ -100,84 +64,35 @@ put-decimal-returns-2 t c =
     decimal-small (a .places) (a .number) (a .at) (a .buffer .now) (at-put1 .put1 .last .0) p (at-if2 .if2 .taken)
     (rw (at-digit .digit .ensures) at (at-put1 .put1 .ensures))
 
-put-decimal-sub-put-decimal : (t : ℕ) → put-decimal-lts.Need-sub-put-decimal (
-  digit-reads.Asked,
-  digit-reads.Learnt,
-  put1-reads.Asked,
-  put1-reads.Learnt,
-  put-decimal-below t,
-  put-decimal.Post,
-) (put-decimal-at t) put-decimal.Post
+put-decimal-sub-put-decimal : (t : ℕ) → put-decimal-lts.Need-sub-put-decimal (claims t) (put-decimal-at t) put-decimal.Post
 put-decimal-sub-put-decimal t c = omega (arith, c .before .before .if1 .left)
 
-put-decimal-put-decimal-requires : (t : ℕ) → put-decimal-lts.Need-put-decimal-requires (
-  digit-reads.Asked,
-  digit-reads.Learnt,
-  put1-reads.Asked,
-  put1-reads.Learnt,
-  put-decimal-below t,
-  put-decimal.Post,
-) (put-decimal-at t) put-decimal.Post
+put-decimal-put-decimal-requires : (t : ℕ) → put-decimal-lts.Need-put-decimal-requires (claims t) (put-decimal-at t) put-decimal.Post
 put-decimal-put-decimal-requires t c κs =
     let at-if1 = c .before .before in
     let start = at-if1 .before .before in
-    omega (arith, at-if1 .if1 .left, start .pre .0, start .pre .1 .0, start .pre .1 .1)
+    omega (arith, at-if1 .if1 .left, start .pre .0, start .pre .1)
 
-put-decimal-digit-requires-2 : (t : ℕ) → put-decimal-lts.Need-digit-requires-2 (
-  digit-reads.Asked,
-  digit-reads.Learnt,
-  put1-reads.Asked,
-  put1-reads.Learnt,
-  put-decimal-below t,
-  put-decimal.Post,
-) (put-decimal-at t) put-decimal.Post
+put-decimal-digit-requires-2 : (t : ℕ) → put-decimal-lts.Need-digit-requires-2 (claims t) (put-decimal-at t) put-decimal.Post
 put-decimal-digit-requires-2 t c κs = omega arith
 
-put-decimal-put1-requires-2 : (t : ℕ) → put-decimal-lts.Need-put1-requires-2 (
-  digit-reads.Asked,
-  digit-reads.Learnt,
-  put1-reads.Asked,
-  put1-reads.Learnt,
-  put-decimal-below t,
-  put-decimal.Post,
-) (put-decimal-at t) put-decimal.Post
+put-decimal-put1-requires-2 : (t : ℕ) → put-decimal-lts.Need-put1-requires-2 (claims t) (put-decimal-at t) put-decimal.Post
 put-decimal-put1-requires-2 t c κs = search needs
 
-put-decimal-add-result-2 : (t : ℕ) → put-decimal-lts.Need-add-result-2 (
-  digit-reads.Asked,
-  digit-reads.Learnt,
-  put1-reads.Asked,
-  put1-reads.Learnt,
-  put-decimal-below t,
-  put-decimal.Post,
-) (put-decimal-at t) put-decimal.Post
+put-decimal-add-result-2 : (t : ℕ) → put-decimal-lts.Need-add-result-2 (claims t) (put-decimal-at t) put-decimal.Post
 put-decimal-add-result-2 t c =
-    let at-before = c .before .before .before .before .before .before in
-    let at-put-decimal = at-before .before in
+    let at-digit2 = c .before .before .before in
+    let at-put-decimal = at-digit2 .before .before .before .before in
     let start = at-put-decimal .before .before .before .before .before in
-    omega (arith, at-put-decimal .put-decimal .ensures .within, start .pre .1 .0, start .pre .1 .1)
+    omega (arith, at-put-decimal .put-decimal .ensures .within, start .pre .1)
 
-put-decimal-same-length-2 : (t : ℕ) → put-decimal-lts.Need-same-length-2 (
-  digit-reads.Asked,
-  digit-reads.Learnt,
-  put1-reads.Asked,
-  put1-reads.Learnt,
-  put-decimal-below t,
-  put-decimal.Post,
-) (put-decimal-at t) put-decimal.Post
+put-decimal-same-length-2 : (t : ℕ) → put-decimal-lts.Need-same-length-2 (claims t) (put-decimal-at t) put-decimal.Post
 put-decimal-same-length-2 t c =
     let at-put12 = c .before .before in
     let at-put-decimal = at-put12 .before .before .before .before .before in
     at-put12 .put12 .kept .0 ∙ at-put-decimal .put-decimal .kept .0
 
-put-decimal-returns-3 : (t : ℕ) → put-decimal-lts.Need-returns-3 (
-  digit-reads.Asked,
-  digit-reads.Learnt,
-  put1-reads.Asked,
-  put1-reads.Learnt,
-  put-decimal-below t,
-  put-decimal.Post,
-) (put-decimal-at t) put-decimal.Post
+put-decimal-returns-3 : (t : ℕ) → put-decimal-lts.Need-returns-3 (claims t) (put-decimal-at t) put-decimal.Post
 put-decimal-returns-3 t c =
     let at-put12 = c .before .before in
     let at-digit2 = at-put12 .before in
@@ -191,16 +106,7 @@ put-decimal-returns-3 t c =
     (at-if2 .if2 .left) (at-put-decimal .put-decimal .ensures) (rw (at-digit2 .digit2 .ensures) at (at-put12 .put12 .ensures))
 
 pub +put-decimal-spec : {M : Type 1} → statement M
-+put-decimal-spec = close μ-put-decimal λ t. put-decimal-lts.spec (
-  digit-reads.Asked,
-  digit-reads.Learnt,
-  put1-reads.Asked,
-  put1-reads.Learnt,
-  put-decimal-below t,
-  put-decimal.Post,
-)
-    (put-decimal-at t)
-    put-decimal.Post
++put-decimal-spec = close μ-put-decimal λ t. put-decimal-lts.spec (claims t) (put-decimal-at t) put-decimal.Post
     (put-decimal-returns t)
     (put-decimal-digit-requires t)
     (put-decimal-put1-requires t)

@@ -22,7 +22,8 @@ event-name-requires c κs = search needs
 
 put-word-requires : tie.Need-put-word-requires
 put-word-requires c κs =
-    let start = c .before .before .before .before .before .before .before in
+    let at-put1 = c .before .before .before .before in
+    let start = at-put1 .before .before .before in
     (omega (arith, start .pre), rw (c .event-name .ensures) (event-length (start .args .event)))
 
 amount-requires : tie.Need-amount-requires

@@ -15,6 +15,9 @@ enum-known-told c = search needs
 put-with-requires : tie.Need-put-with-requires
 put-with-requires c κs = search needs
 
+enum-told : tie.Need-enum-told
+enum-told c = search needs
+
 enum-known-told-2 : tie.Need-enum-known-told-2
 enum-known-told-2 c = search needs
 
@@ -23,21 +26,6 @@ put-with-requires-2 c κs = search needs
 
 enum-known-told-3 : tie.Need-enum-known-told-3
 enum-known-told-3 c = search needs
-
-put-with-requires-3 : tie.Need-put-with-requires-3
-put-with-requires-3 c κs = search needs
-
-enum-told : tie.Need-enum-told
-enum-told c = search needs
-
-enum-known-told-4 : tie.Need-enum-known-told-4
-enum-known-told-4 c = search needs
-
-put-with-requires-4 : tie.Need-put-with-requires-4
-put-with-requires-4 c κs = search needs
-
-enum-known-told-5 : tie.Need-enum-known-told-5
-enum-known-told-5 c = search needs
 
 put-event-requires : tie.Need-put-event-requires
 put-event-requires c κs = search needs
@@ -51,11 +39,16 @@ returns c =
     let at-told = at-put-with .before .before .before in
     rw (at-told .told .given .1) (at-put-with .put-with .ensures)
 
+returns-2 : tie.Need-returns-2
+returns-2 c =
+    let a = c .before .before .before .args in
+    rw (c .enum-told .given .1) (put-room [] (a .at) 0 31 (a .at) (a .buffer .now) (a .buffer .now) (omega arith) (put-nothing (a .at) (a .buffer .now)))
+
 same-length-2 : tie.Need-same-length-2
 same-length-2 c = search needs
 
-returns-2 : tie.Need-returns-2
-returns-2 c =
+returns-3 : tie.Need-returns-3
+returns-3 c =
     let at-put-with2 = c .before .before in
     let at-told2 = at-put-with2 .before .before .before in
     rw (at-told2 .told2 .given .1) (at-put-with2 .put-with2 .ensures)
@@ -63,37 +56,14 @@ returns-2 c =
 same-length-3 : tie.Need-same-length-3
 same-length-3 c = search needs
 
-returns-3 : tie.Need-returns-3
-returns-3 c =
-    let at-put-with3 = c .before .before in
-    let at-told3 = at-put-with3 .before .before .before in
-    rw (at-told3 .told3 .given .1) (at-put-with3 .put-with3 .ensures)
-
 returns-4 : tie.Need-returns-4
 returns-4 c =
-    let a = c .before .before .before .args in
-    rw (c .enum-told .given .1) (put-room [] (a .at) 0 31 (a .at) (a .buffer .now) (a .buffer .now) (omega arith) (put-nothing (a .at) (a .buffer .now)))
-
-same-length-4 : tie.Need-same-length-4
-same-length-4 c = search needs
-
-returns-5 : tie.Need-returns-5
-returns-5 c =
-    let at-put-with4 = c .before .before in
-    let at-told4 = at-put-with4 .before .before .before in
-    rw (at-told4 .told4 .given .1) (at-put-with4 .put-with4 .ensures)
-
-same-length-5 : tie.Need-same-length-5
-same-length-5 c = search needs
-
-returns-6 : tie.Need-returns-6
-returns-6 c =
     let at-put-event = c .before .before in
-    let at-told5 = at-put-event .before .before .before in
-    let start = at-told5 .before .before .before in
+    let at-told3 = at-put-event .before .before .before in
+    let start = at-told3 .before .before .before in
     let a = start .args in
-    let e = at-told5 .told5 .given .0 .0 in
-    rw (at-told5 .told5 .given .1)
+    let e = at-told3 .told3 .given .0 .0 in
+    rw (at-told3 .told3 .given .1)
     (put-room (spaced (eventName e ∷ decimal (amountOf e) ∷ [])) (a .at) 20 31 (at-put-event .put-event .result) (a .buffer .now) (at-put-event .put-event .last .0) (omega arith)
     (at-put-event .put-event .ensures))
 
@@ -103,23 +73,15 @@ put-then-spec =
     (tie.spec
     enum-known-told
     put-with-requires
+    enum-told
     enum-known-told-2
     put-with-requires-2
     enum-known-told-3
-    put-with-requires-3
-    enum-told
-    enum-known-told-4
-    put-with-requires-4
-    enum-known-told-5
     put-event-requires
     same-length
     returns
-    same-length-2
     returns-2
-    same-length-3
+    same-length-2
     returns-3
-    returns-4
-    same-length-4
-    returns-5
-    same-length-5
-    returns-6)
+    same-length-3
+    returns-4)

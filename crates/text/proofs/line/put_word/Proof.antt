@@ -31,7 +31,8 @@ same-length c = search needs
 returns : tie.Need-returns
 returns c =
     let at-put-letters = c .before .before in
-    let start = at-put-letters .before .before .before .before .before .before in
+    let at-part = at-put-letters .before .before in
+    let start = at-part .before .before .before .before in
     let a = start .args in
     let word = a .word in
     let places : length (word .letters) ≡ 8 = simp length-map at (start .good .1 .1 .0 .1 .1 .1 .0 .1 .0 .1) in
