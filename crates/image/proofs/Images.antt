@@ -13,6 +13,7 @@ use Rattle.image.specs.Words.{accountWords, wordsOfSlot, wordsOfSlots, w
 use Rattle.image.specs.Reading.{accountFrom}
 use Rattle.image.specs.Images.{Kept, fresh, Stores, ImagesHold}
 use Rattle.image.proofs.ReadBack.{length-words, account-back, reads-back, one-account}
+use Rattle.image.proofs.OwnWords.{own-words}
 use Rattle.image.proofs.WrittenBack.{written-back}
 
 kept-fresh : Kept fresh
@@ -51,4 +52,4 @@ stores words from a k =
     }
 
 pub images-hold : ImagesHold
-images-hold = record { read = reads-back; one = one-account; written = written-back; zeroed = record { image = fresh-image; reads = zeros-read }; stores = stores }
+images-hold = record { read = reads-back; one = one-account; own = own-words; written = written-back; zeroed = record { image = fresh-image; reads = zeros-read }; stores = stores }

@@ -4,5 +4,6 @@ pub mod Rows
 pub mod Accounts
 pub mod ReadBack
 pub mod WrittenBack
+pub mod OwnWords
 pub mod Images
 pub mod Vectors

@@ -1,23 +1,26 @@
 -- Words that are an account's are the image of what they read as; so what is no image reads as an account that is not in order.
 -- Assumes nothing.
-use Prim.Native.Nat.{ℕ, zero, suc, _+_, _*_, _≤_}
+use Prim.Native.Nat.{ℕ, zero, suc, _+_, _*_, _≤_, _<_}
 use native.Mathlib.Nat.{min-eq-left}
 use native.Mathlib.Omega.{arith}
 use mathlib.Core.Path.{_≡_, refl, ap, _∙_}
-use mathlib.Core.Bool.{Bool, true, false, cond, _&&_, false≢true}
+use mathlib.Core.Bool.{Bool, true, false, cond, _&&_}
 use mathlib.Core.List.{List, [], _∷_}
 use borrow.Author.Tests.{eqb-true, leb-true}
 use lib.Dec.{eqb, leb}
 use lib.ListN.{length, getD, take, drop, length-drop}
 use lib.Seq.{take-add, getD-drop}
+use Rattle.rule.specs.Lists.{every}
+use Rattle.rule.specs.Rule.{Rule}
 use Rattle.rule.proofs.Lists.{and-left, and-right}
+use Rattle.events.specs.declared.Event.{Event}
 use Rattle.events.specs.Kinds.{amountOf}
 use Rattle.events.specs.declared.State.{State}
 use Rattle.filing.specs.declared.Slot.{Slot}
 use Rattle.filing.specs.Slots.{places}
 use Rattle.account.specs.declared.Account.{Account}
 use Rattle.account.specs.InOrder.{inOrderBy}
-use Rattle.account.specs.First.{inOrderOf}
+use Rattle.account.proofs.Clauses.{clauses}
 use Rattle.image.specs.Words.{lifeWord, eventWord, decisionWord, placeWords, wordsOfSlot, wordsOfSlots, headWords, rowWords, accountWords, headOf, wordsOf}
 use Rattle.image.specs.Reading.{lifeFrom, isLife, decisionFrom, isDecision, eventFrom, slotFrom, isSlot, slotsFrom, areSlots, tooMany, isAccount, fieldsFrom, noAccount, accountFrom}
 use Rattle.image.specs.Images.{AreWords, Kept, WrittenBack}
@@ -112,46 +115,62 @@ account-written words h w b =
 -- ---- in order
 
 -- an account with too many in progress is not in order: so there was room, and every word was one of its field's
-only-if : (room valid : Bool) (s : State) (progress held : List Slot) (progressing holding : ℕ)
-    → inOrderOf (cond room (record { state = s; progress = progress; progressing = cond valid progressing tooMany; held = held; holding = holding }) noAccount) ≡ true
-    → (room ≡ true) × (valid ≡ true)
-unfolding inOrderBy
-only-if true true s progress held progressing holding h = (refl, refl)
-only-if true false s progress held progressing holding h = absurd (false≢true h)
-only-if false valid s progress held progressing holding h = absurd (false≢true h)
+module _ (R : Rule State Event ℕ) (few : R .progressLimit ≤ places) where
+  ordered-few : (a : Account) → inOrderBy R a ≡ true → a .progressing ≤ places
+  ordered-few a h = omega (arith, few, clauses R a h .progressing)
 
-module _ (words : List ℕ) (from : ℕ) (h : inOrderOf (accountFrom words from) ≡ true) where
-  ordered : (leb (from + accountWords) (length words) ≡ true) × (isAccount (drop from words) ≡ true)
-  unfolding accountFrom fieldsFrom
-  ordered =
-      let a = fieldsFrom (drop from words) in
-      only-if (leb (from + accountWords) (length words)) (isAccount (drop from words)) (a .state) (a .progress) (a .held) (getD (drop from words) 2 0) (a .holding) h
+  only-if : (room valid : Bool) (s : State) (progress held : List Slot) (progressing holding : ℕ)
+      → inOrderBy R (cond room (record { state = s; progress = progress; progressing = cond valid progressing tooMany; held = held; holding = holding }) noAccount) ≡ true
+      → (room ≡ true) × (valid ≡ true)
+  only-if true true s progress held progressing holding h = (refl, refl)
+  only-if true false s progress held progressing holding h =
+      absurd (omega (arith, ordered-few (record { state = s; progress = progress; progressing = tooMany; held = held; holding = holding }) h))
+  only-if false valid s progress held progressing holding h = absurd (omega (arith, ordered-few noAccount h))
 
-  read-so : accountFrom words from ≡ fieldsFrom (drop from words)
-  unfolding accountFrom
-  read-so = rw (ordered .0) refl
+  module _ (words : List ℕ) (from : ℕ) (h : inOrderBy R (accountFrom words from) ≡ true) where
+    ordered : (leb (from + accountWords) (length words) ≡ true) × (isAccount (drop from words) ≡ true)
+    unfolding accountFrom fieldsFrom
+    ordered =
+        let a = fieldsFrom (drop from words) in
+        only-if (leb (from + accountWords) (length words)) (isAccount (drop from words)) (a .state) (a .progress) (a .held) (getD (drop from words) 2 0) (a .holding) h
 
-  roomy : accountWords ≤ length (drop from words)
-  roomy = omega (arith, length-drop from words, leb-true (from + accountWords) (length words) (ordered .0))
+    pub ordered-room : from + accountWords ≤ length words
+    ordered-room = leb-true (from + accountWords) (length words) (ordered .0)
 
-  module _ (w : AreWords words) where
-    words-behind : AreWords (drop from words)
-    words-behind i = rw getD-drop (w (from + i))
+    read-so : accountFrom words from ≡ fieldsFrom (drop from words)
+    unfolding accountFrom
+    read-so = rw (ordered .0) refl
 
-    is-kept : Kept (accountFrom words from)
-    is-kept = rw read-so (kept-fields (drop from words) words-behind (ordered .1))
+    roomy : accountWords ≤ length (drop from words)
+    roomy = omega (arith, length-drop from words, ordered-room)
 
-    is-image : take accountWords (drop from words) ≡ wordsOf (accountFrom words from)
-    is-image = rw read-so (account-written (drop from words) roomy words-behind (ordered .1))
+    module _ (w : AreWords words) where
+      words-behind : AreWords (drop from words)
+      words-behind i = rw getD-drop (w (from + i))
 
-pub written-back : (words : List ℕ) (from : ℕ) → AreWords words → WrittenBack words from
-written-back words from w =
-    record {
-      kept = λ h. is-kept words from h w;
-      image = λ h. is-image words from h w;
-      none = λ other. go (inOrderOf (accountFrom words from)) refl other;
-    }
-  where
-    go : (b : Bool) → inOrderOf (accountFrom words from) ≡ b → ((a : Account) → Kept a → take 84 (drop from words) ≡ wordsOf a → ⊥) → b ≡ false
-    go true h other = absurd (other (accountFrom words from) (is-kept words from h w) (is-image words from h w))
-    go false h other = refl
+      is-kept : Kept (accountFrom words from)
+      is-kept = rw read-so (kept-fields (drop from words) words-behind (ordered .1))
+
+      is-image : take accountWords (drop from words) ≡ wordsOf (accountFrom words from)
+      is-image = rw read-so (account-written (drop from words) roomy words-behind (ordered .1))
+
+  -- an account that has too few words is not in order
+  pub too-short : (words : List ℕ) (from : ℕ) → length words < from + accountWords → inOrderBy R (accountFrom words from) ≡ false
+  too-short words from low = go (inOrderBy R (accountFrom words from)) refl
+    where
+      go : (b : Bool) → inOrderBy R (accountFrom words from) ≡ b → b ≡ false
+      go true h = absurd (omega (arith, ordered-room words from h))
+      go false h = refl
+
+  pub written-back : (words : List ℕ) (from : ℕ) → AreWords words → WrittenBack R words from
+  written-back words from w =
+      record {
+        room = ordered-room words from;
+        kept = λ h. is-kept words from h w;
+        image = λ h. is-image words from h w;
+        none = λ other. go (inOrderBy R (accountFrom words from)) refl other;
+      }
+    where
+      go : (b : Bool) → inOrderBy R (accountFrom words from) ≡ b → ((a : Account) → Kept a → take 84 (drop from words) ≡ wordsOf a → ⊥) → b ≡ false
+      go true h other = absurd (other (accountFrom words from) (is-kept words from h w) (is-image words from h w))
+      go false h other = refl

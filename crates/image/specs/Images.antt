@@ -5,12 +5,15 @@ use mathlib.Core.Path.{_≡_}
 use mathlib.Core.Bool.{true, false}
 use mathlib.Core.List.{List, _++_}
 use lib.ListN.{length, getD, take, drop, replicate}
+use Rattle.rule.specs.Rule.{Rule}
+use Rattle.events.specs.declared.Event.{Event}
 use Rattle.events.specs.declared.Event.the-variants.{Open}
 use Rattle.events.specs.declared.Life.the-variants.{New}
+use Rattle.events.specs.declared.State.{State}
 use Rattle.filing.specs.declared.Decision.the-variants.{Undecided}
 use Rattle.filing.specs.declared.Slot.{Slot}
 use Rattle.account.specs.declared.Account.{Account}
-use Rattle.account.specs.First.{inOrderOf}
+use Rattle.account.specs.InOrder.{inOrderBy}
 use Rattle.image.specs.Words.{wordsOf, storedIn}
 use Rattle.image.specs.Reading.{accountFrom}
 
@@ -34,12 +37,17 @@ pub record ReadsBack (a : Account) : Type 0 where
 abbrev pub OneAccount : Type 0
 OneAccount = (a b : Account) → Kept a → Kept b → wordsOf a ≡ wordsOf b → a ≡ b
 
--- what reads as an account in order is that account's image; so no two contents read as one account in order,
+-- an account is read from its own 84 words, and from no others
+abbrev pub OwnWords : Type 0
+OwnWords = (words other : List ℕ) (from at : ℕ) → take 84 (drop from words) ≡ take 84 (drop at other) → accountFrom words from ≡ accountFrom other at
+
+-- what reads as an account in order, by any rule with no more in progress than there are places, is that account's image; so no two contents read as one account in order,
 -- and one that is no account's image reads as an account that is not in order
-pub record WrittenBack (words : List ℕ) (from : ℕ) : Type 0 where
-  pub kept : inOrderOf (accountFrom words from) ≡ true → Kept (accountFrom words from)
-  pub image : inOrderOf (accountFrom words from) ≡ true → take 84 (drop from words) ≡ wordsOf (accountFrom words from)
-  pub none : ((a : Account) → Kept a → take 84 (drop from words) ≡ wordsOf a → ⊥) → inOrderOf (accountFrom words from) ≡ false
+pub record WrittenBack (R : Rule State Event ℕ) (words : List ℕ) (from : ℕ) : Type 0 where
+  pub room : inOrderBy R (accountFrom words from) ≡ true → from + 84 ≤ length words
+  pub kept : inOrderBy R (accountFrom words from) ≡ true → Kept (accountFrom words from)
+  pub image : inOrderBy R (accountFrom words from) ≡ true → take 84 (drop from words) ≡ wordsOf (accountFrom words from)
+  pub none : ((a : Account) → Kept a → take 84 (drop from words) ≡ wordsOf a → ⊥) → inOrderBy R (accountFrom words from) ≡ false
 
 -- zeroed words are the image of a fresh account
 abbrev pub blanks : List Slot
@@ -61,6 +69,7 @@ pub record Stores (words : List ℕ) (from : ℕ) (a : Account) : Type 0 where
 pub record ImagesHold : Type 0 where
   pub read : (a : Account) → Kept a → ReadsBack a
   pub one : OneAccount
-  pub written : (words : List ℕ) (from : ℕ) → AreWords words → WrittenBack words from
+  pub own : OwnWords
+  pub written : (R : Rule State Event ℕ) → R .progressLimit ≤ 8 → (words : List ℕ) (from : ℕ) → AreWords words → WrittenBack R words from
   pub zeroed : Zeroed
   pub stores : (words : List ℕ) (from : ℕ) (a : Account) → Kept a → Stores words from a

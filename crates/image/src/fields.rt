@@ -10,7 +10,7 @@ ghost use Rattle.image.specs.Reading.{lifeFrom, eventFrom, decisionFrom}
 const MOST: usize = 4_294_967_295;
 
 // The word of a life.
-pub(crate) fn life_word(life: Life) -> u32
+pub fn life_word(life: Life) -> u32
     ensures { λ r. ⌜ r ≡ lifeWord life ⌝ }
 {
     match life {

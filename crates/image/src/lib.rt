@@ -4,6 +4,7 @@ mod places;
 
 use account::Account;
 use events::State;
+pub use fields::life_word;
 use filing::Slot;
 ghost use mathlib.Core.Path.{_≡_};
 ghost use mathlib.Core.Bool.{cond};

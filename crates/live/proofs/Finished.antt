@@ -1,0 +1,122 @@
+-- The ways out of a call on an image: a refusal of the reader or of the room changes nothing; else what the account that is named makes of the message.
+-- Assumes nothing.
+use Prim.Native.Nat.{ℕ, _≤_, _<_}
+use native.Mathlib.Omega.{arith}
+use mathlib.Core.Path.{_≡_, refl, ap, _∙_}
+use mathlib.Core.List.{List}
+use borrow.Author.Tests.{lt-ltb, le-ltb}
+use lib.ListN.{length}
+use lib.Seq.{getD-set-same}
+use Rattle.rule.specs.Rule.{Rule}
+use Rattle.events.specs.declared.Event.{Event}
+use Rattle.events.specs.declared.State.{State}
+use Rattle.filing.specs.declared.Entries.{Entries}
+use Rattle.account.specs.declared.Account.{Account}
+use Rattle.account.specs.declared.Answer.{Answer}
+use Rattle.account.specs.declared.Answer.the-variants as Answer′
+use Rattle.account.specs.declared.Stepped.{Stepped}
+use Rattle.account.specs.Steps.{stepBy}
+use Rattle.layout.specs.declared.Writing.{Writing}
+use Rattle.layout.specs.declared.Writing.the-variants as Writing′
+use Rattle.layout.specs.Fields.{lastAccount}
+use Rattle.message.specs.declared.Message.{Message}
+use Rattle.message.specs.declared.Reading.{Reading}
+use Rattle.message.specs.declared.Reading.the-variants as Reading′
+use Rattle.message.specs.Bytes.{headingOf}
+use Rattle.message.specs.Answers.{readOf}
+use Rattle.entry.specs.Answers.{longestCall, writeOf}
+use Rattle.image.specs.Words.{storedIn}
+use Rattle.image.specs.Reading.{accountFrom}
+use Rattle.register.specs.declared.Reply.{Reply}
+use Rattle.register.specs.declared.Reply.the-variants.{Refused, Taken}
+use Rattle.register.specs.Register.{accountsOfRegister, nowhere, ruleMessage, sentAs, sentBy}
+use Rattle.register.specs.Call.{Result, refusedWith, wroteOf, afterMessage, calledBy}
+use Rattle.register.specs.Helpers.{readingNumber, stepNumber, Fitting}
+use Rattle.register.proofs.ReadAs.{read-as, account-read}
+use Rattle.register.proofs.Suits.{Suits}
+use Rattle.register.proofs.Sending.{step-bytes}
+use Rattle.register.proofs.Writes.{bytes-written, bytes-left}
+use Rattle.live.specs.Registers.{wordAt, registerOf}
+use Rattle.live.specs.Live.{Live, imageAfter, liveBy}
+use Rattle.live.specs.Helpers.{finishedBy, finishedOf}
+use Rattle.live.proofs.Standing.{length-accountsFrom, account-of-image}
+
+-- a refusal
+abbrev pub refusedLive : (image buffer : List ℕ) (number : ℕ) → Live
+refusedLive image buffer n = record { reply = Refused n; image = image; buffer = buffer }
+
+-- what was sent, on the image: the account that follows is the one whose words are stored
+module _ (image buffer : List ℕ) (i consumed : ℕ) (low : i < accountsOfRegister) (next : Account) (entries : Entries) where
+  abbrev wrote : Answer → Result
+  wrote answer = wroteOf (registerOf image) buffer i consumed (sentAs (registerOf image) i answer next entries)
+
+  finished-is : (answer : Answer)
+      → _≡_ {A = Live} (record { reply = wrote answer .reply; image = imageAfter image i (wrote answer .reply) (wrote answer .register); buffer = wrote answer .buffer })
+      (finishedBy image buffer i consumed answer next entries)
+  finished-is (Answer′.Refused n) = refl
+  finished-is Answer′.Taken =
+      let there : i < length (registerOf image .accounts) = rw (length-accountsFrom accountsOfRegister image 0) low in
+      rw (getD-set-same (registerOf image .accounts) i next nowhere there) refl
+
+-- what is at hand at a way out: the reply, the image and the buffer
+abbrev pub Gives : Live → Reply → (image buffer : List ℕ) → Type 0
+Gives live reply image buffer = (reply ≡ live .reply) × (image ≡ live .image) × (buffer ≡ live .buffer)
+
+pub gives : {x y : Live} → x ≡ y → (reply : Reply) (image buffer : List ℕ) → Gives y reply image buffer → Gives x reply image buffer
+gives e reply image buffer g = rw e g
+
+-- what is made of an account's answer
+module _ (image buffer : List ℕ) (i consumed : ℕ) (stepped : Stepped) where
+  pub answer-refused : (n number : ℕ) → stepped .answer ≡ Answer′.Refused n → number ≡ stepNumber (stepped .answer)
+      → Gives (finishedOf image buffer i consumed stepped) (Refused number) image buffer
+  answer-refused n number f p = let same : number ≡ n = p ∙ ap stepNumber f in rw (f, same) (refl, refl, refl)
+
+  pub answer-taken : Fitting (stepped .entries) i buffer → (w : Writing) (n : ℕ) (last : List ℕ) (from : ℕ) (stored : List ℕ) → stepped .answer ≡ Answer′.Taken
+      → w ≡ writeOf (stepped .entries) i buffer .answer → w ≡ Writing′.Written n → last ≡ writeOf (stepped .entries) i buffer .buffer
+      → from ≡ wordAt i → stored ≡ storedIn image from (stepped .account)
+      → Gives (finishedOf image buffer i consumed stepped) (Taken consumed n) stored last
+  answer-taken fits w n last from stored f p z b h k =
+      let t = bytes-written (stepped .entries) i buffer fits w n p z in
+      (rw (f, t) refl, k ∙ rw (f, h) refl, bytes-left (stepped .entries) i buffer fits last b ∙ rw f refl)
+
+module _ (R : Rule State Event ℕ) (image bytes buffer : List ℕ) where
+  pub live-refused : (n : ℕ) → calledBy R (registerOf image) bytes buffer ≡ refusedWith (registerOf image) buffer n → liveBy R image bytes buffer ≡ refusedLive image buffer n
+  unfolding liveBy
+  live-refused n e = rw e refl
+
+  -- the reader's refusal
+  pub live-unread : (x : Reading) (n number : ℕ) → x ≡ readOf bytes → x ≡ Reading′.Refused n → number ≡ readingNumber x → liveBy R image bytes buffer ≡ refusedLive image buffer number
+  unfolding calledBy
+  live-unread x n number q e p =
+      let same : number ≡ n = p ∙ ap readingNumber e in
+      live-refused number (rw (← q, e, same) refl)
+
+  -- a message that was read: 4,
+  pub live-roomless : (x : Reading) (m : Message) (consumed : ℕ) → x ≡ readOf bytes → x ≡ Reading′.Message m consumed → length buffer < longestCall
+      → liveBy R image bytes buffer ≡ refusedLive image buffer 4
+  unfolding calledBy afterMessage
+  live-roomless x m consumed q e l = live-refused 4 (rw (← q, e, lt-ltb (length buffer) longestCall l) refl)
+
+-- or the account that it names is read, and steps
+pub record Named (image bytes buffer : List ℕ) (m : Message) (consumed : ℕ) (a : Account) : Type 0 where
+  pub read : readOf bytes ≡ Reading′.Message m consumed
+  pub room : longestCall ≤ length buffer
+  pub account : a ≡ accountFrom image (wordAt (headingOf m .account))
+
+module _ (R : Rule State Event ℕ) (image bytes buffer : List ℕ) (m : Message) (consumed : ℕ) (a : Account) (n : Named image bytes buffer m consumed a) where
+  abbrev i : ℕ
+  i = headingOf m .account
+
+  named-low : i < accountsOfRegister
+  named-low = omega (arith, account-read bytes m consumed (n .read), read-as bytes m consumed (n .read) .account)
+
+  module _ (stepped : Stepped) (t : stepped ≡ stepBy R a (ruleMessage m)) where
+    pub live-finished : liveBy R image bytes buffer ≡ finishedOf image buffer i consumed stepped
+    unfolding liveBy calledBy afterMessage sentBy
+    live-finished =
+        let known : i ≤ lastAccount = omega (arith, named-low) in
+        rw (n .read, le-ltb (length buffer) longestCall (n .room), le-ltb lastAccount i known, account-of-image image i named-low, ← n .account, ← t)
+        (finished-is image buffer i consumed named-low (stepped .account) (stepped .entries) (stepped .answer))
+
+    pub finish-fits : Suits R → Fitting (stepped .entries) i buffer
+    finish-fits k = record { call = n .room; entries′ = rw t (omega (arith, n .room, step-bytes R k a (ruleMessage m) i)) }

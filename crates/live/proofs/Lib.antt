@@ -1,0 +1,9 @@
+pub mod Standing
+pub mod Finished
+pub mod Forms
+pub mod RegisterImages
+pub mod Stored
+pub mod Keeping
+pub mod OwnAlone
+pub mod KeptOn
+pub mod Vectors

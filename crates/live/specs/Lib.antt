@@ -1,0 +1,9 @@
+pub mod Registers
+pub mod Live
+pub mod Exports
+pub mod First
+pub mod Images
+pub mod Keeping
+pub mod Forms
+pub mod Helpers
+pub mod Vectors

@@ -1,0 +1,50 @@
+-- Three calls on zeroed memory, word by word (docs/REGISTER.md, 15.2, 15.6 and 15.7): antt computes them from the definitions alone.
+-- Assumes nothing.
+use Prim.Native.Nat.{ℕ}
+use mathlib.Core.Path.{_≡_}
+use mathlib.Core.List.{List, [], _∷_, _++_}
+use lib.ListN.{take, replicate}
+use Rattle.live.specs.First.{exportedCallOf, exportedLookOf}
+use Rattle.live.specs.Exports.{ExportedCall}
+
+-- on account 2 at second 101: Open 258 under 7, its commit, Withdraw 5 under 9
+abbrev pub opening : List ℕ
+opening = 1 ∷ 0 ∷ 0 ∷ 0 ∷ 7 ∷ 0 ∷ 2 ∷ 0 ∷ 0 ∷ 0 ∷ 101 ∷ 0 ∷ 0 ∷ 1 ∷ 2 ∷ []
+
+abbrev pub commit : List ℕ
+commit = 5 ∷ 0 ∷ 0 ∷ 0 ∷ 7 ∷ 0 ∷ 2 ∷ 0 ∷ 0 ∷ 0 ∷ 101 ∷ []
+
+abbrev pub withdrawal : List ℕ
+withdrawal = 2 ∷ 0 ∷ 0 ∷ 0 ∷ 9 ∷ 0 ∷ 2 ∷ 0 ∷ 0 ∷ 0 ∷ 101 ∷ 0 ∷ 0 ∷ 0 ∷ 5 ∷ []
+
+-- an image in which account 2 begins with these words, and everything else is 0
+abbrev pub beginning : List ℕ → List ℕ
+beginning words = replicate 168 0 ++ words ++ replicate 1_163 0
+
+abbrev pub called : (image message : List ℕ) → ExportedCall
+called image message = exportedCallOf image message (replicate 315 165) (8 ∷ 9 ∷ 10 ∷ [])
+
+-- life, balance, in progress, held; then the first place: transaction, second, event, amount, decision; then the transaction of the second place, and three words more
+abbrev pub opened : List ℕ
+opened = beginning (0 ∷ 0 ∷ 1 ∷ 0 ∷ 7 ∷ 101 ∷ 0 ∷ 258 ∷ 0 ∷ 0 ∷ 0 ∷ 0 ∷ 0 ∷ [])
+
+abbrev pub committed : List ℕ
+committed = beginning (1 ∷ 258 ∷ 0 ∷ 0 ∷ 0 ∷ 0 ∷ 0 ∷ 0 ∷ 0 ∷ 0 ∷ 0 ∷ 0 ∷ 0 ∷ [])
+
+abbrev pub withdrawn : List ℕ
+withdrawn = beginning (1 ∷ 258 ∷ 1 ∷ 0 ∷ 9 ∷ 101 ∷ 1 ∷ 5 ∷ 0 ∷ 0 ∷ 0 ∷ 0 ∷ 0 ∷ [])
+
+pub record VectorsHold : Type 0 where
+  pub opens : called (replicate 1_344 0) opening .image ≡ opened
+  pub openCounts : called (replicate 1_344 0) opening .counts ≡ 15 ∷ 18 ∷ 10 ∷ []
+  pub commits : called opened commit .image ≡ committed
+  pub commitCounts : called opened commit .counts ≡ 11 ∷ 31 ∷ 10 ∷ []
+  pub withdraw : called committed withdrawal .image ≡ withdrawn
+  -- once more: refused with 6, and no word changes
+  pub again : called withdrawn withdrawal ≡ record { answer = 6; image = withdrawn; entries = replicate 315 165; counts = 0 ∷ 0 ∷ 10 ∷ [] }
+  -- an image that ends before the account's last word: 5
+  pub short : called (take 251 withdrawn) withdrawal .answer ≡ 5
+  -- the outcomes: opened, 253 steps and one applied; there is no third
+  pub look : exportedLookOf withdrawn 2 1 (9 ∷ 9 ∷ 9 ∷ 9 ∷ []) ≡ record { answer = 0; state = 1 ∷ 253 ∷ 1 ∷ 9 ∷ [] }
+  pub noThird : exportedLookOf withdrawn 2 2 (9 ∷ 9 ∷ []) ≡ record { answer = 12; state = 9 ∷ 9 ∷ [] }
+  pub noAccount : exportedLookOf withdrawn 16 0 [] .answer ≡ 3
