@@ -2,11 +2,11 @@
  * Nacozteya, the register of recalibration events, for callers in C (C99).
  *
  * The libraries are target/staticlib/libregister.a, which has nacozteya_run, and
- * target/staticlib/liblive.a, which has the calls on an image; `rt staticlib register` and
+ * target/staticlib/liblive.a, which has the calls on an image and the line of an entry; `rt staticlib register` and
  * `rt staticlib live` make them for x86-64 Linux. Each function below is proved against a definition:
  * the run against `exportOf` in crates/register/specs/First.antt (contract in
- * crates/register/src/export.rt), the others against `exportedCallOf` and `exportedLookOf` in
- * crates/live/specs/First.antt (contracts in crates/live/src/export.rt). Nothing checks these
+ * crates/register/src/export.rt), the others against `exportedCallOf`, `exportedLookOf` and
+ * `exportedLineOf` in crates/live/specs/First.antt (contracts in crates/live/src/export.rt). Nothing checks these
  * declarations against the contracts.
  *
  * What the caller ensures, of every function:
@@ -123,6 +123,32 @@ enum { NACOZTEYA_NEW = 0, NACOZTEYA_OPENED = 1, NACOZTEYA_CLOSED = 2 };
 uint64_t nacozteya_outlook(const uint32_t *image, size_t image_length,
                            uint16_t account, uint32_t number,
                            uint32_t *state, size_t state_length);
+
+/* ---- the text of an entry ---- */
+
+/* The room that a line needs, whatever its entry is. */
+#define NACOZTEYA_LONGEST_LINE 68
+
+/* The places of a line's `counts`. */
+enum {
+    NACOZTEYA_LINE_ENTRY = 0,  /* bytes that the entry has; 0 where there is no line */
+    NACOZTEYA_LINE_LENGTH = 1, /* bytes that its line has, the newline included; 0 where there is none */
+    NACOZTEYA_LINE_COUNTS = 2
+};
+
+/*
+ * The line of text of the entry that the bytes begin with (docs/REGISTER.md, 12.4 and 15.9).
+ *
+ *   entry, entry_length     the bytes of the entry, perhaps with others behind it; they are only read
+ *   line, line_length       where the line is stored, with no 0 behind it
+ *   counts, counts_length   where the two numbers above are stored, as many as there are places
+ *
+ * Returns the length of the line, or 0 where nothing was written: where the bytes begin with no entry,
+ * or where fewer than NACOZTEYA_LONGEST_LINE bytes are lent.
+ */
+uint64_t nacozteya_line(const uint8_t *entry, size_t entry_length,
+                        uint8_t *line, size_t line_length,
+                        uint64_t *counts, size_t counts_length);
 
 #ifdef __cplusplus
 }

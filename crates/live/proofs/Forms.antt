@@ -1,11 +1,47 @@
--- By computing.
+-- What was stored, by computing; the line of an entry by reading what was written.
 -- Assumes nothing.
-use mathlib.Core.Path.{refl}
-use Rattle.live.specs.Forms.{FormsHold}
+use Prim.Native.Nat.{ℕ, _<_}
+use mathlib.Core.Path.{_≡_, refl}
+use mathlib.Core.List.{List}
+use borrow.Author.Tests.{lt-ltb, le-ltb}
+use lib.ListN.{length}
+use Rattle.entry.specs.declared.EntryReading.{EntryReading}
+use Rattle.entry.specs.declared.EntryReading.the-variants.{Found, Nothing}
+use Rattle.entry.specs.Answers.{readOf}
+use Rattle.entry.proofs.Inverse.{reads-written}
+use Rattle.entry.proofs.Stored.{length-entry}
+use Rattle.text.specs.Text.{writeLineOf}
+use Rattle.live.specs.Lines.{noLine, lineFound, lineOfEntry}
+use Rattle.live.specs.Forms.{LineHolds, FormsHold}
+
+line-none : (bytes buffer : List ℕ) → readOf bytes ≡ Nothing → lineOfEntry bytes buffer ≡ noLine buffer
+unfolding lineOfEntry
+line-none bytes buffer e = rw e refl
+
+line-short : (bytes buffer : List ℕ) → length buffer < 68 → lineOfEntry bytes buffer ≡ noLine buffer
+unfolding lineOfEntry writeLineOf
+line-short bytes buffer h = go (readOf bytes)
+  where
+    go : (x : EntryReading) → lineFound buffer x ≡ noLine buffer
+    go Nothing = refl
+    go (Found e account whole) = rw (lt-ltb (length buffer) 68 h) refl
+
+line-holds : LineHolds
+unfolding lineOfEntry writeLineOf
+line-holds =
+    record {
+      line =
+          λ account e rest buffer w h.
+          rw (reads-written account e rest w, le-ltb (length buffer) 68 h, length-entry account e) refl;
+      none = line-none;
+      short = line-short;
+    }
 
 pub forms-hold : FormsHold
 forms-hold =
     record {
       call = λ image buffer a b c n m. record { refused = refl; taken = refl; one = refl; none = refl };
       look = λ a b c d n m. record { refused = refl; new = refl; opened = refl; closed = refl; two = refl };
+      stored = λ buffer a b c n m. record { stored = refl; one = refl };
+      line = line-holds;
     }

@@ -16,17 +16,21 @@ use Rattle.layout.specs.Fields.{written, numbersAt, rowOfKind}
 use Rattle.layout.specs.Number.{bytesOf, numberAt}
 use Rattle.message.specs.Answers.{readOf}
 use Rattle.message.specs.Bytes.{messages, messageBy}
-use Rattle.entry.specs.Bytes.{entryRows, bytesOfEntry, bytesOfEntries}
+use Rattle.entry.specs.Bytes.{entryRows, bytesOfEntry, bytesOfEntries, toldBy, verdictBy}
+use Rattle.entry.specs.Answers as entry
 use Rattle.image.specs.Words.{wordsOfSlot, wordsOfSlots, wordsOf, storedIn}
 use Rattle.image.specs.Reading.{slotFrom, isSlot, slotsFrom, areSlots, isAccount, fieldsFrom, accountFrom}
 use Rattle.register.specs.Register.{sentBy, askedBy}
 use Rattle.register.specs.Call.{afterMessage, calledBy}
+use Rattle.text.specs.Quoted.{quoted}
+use Rattle.text.specs.Text.{decimalIn, lineOf, writeLineOf}
 use Rattle.live.specs.Registers.{accountsFrom}
 use Rattle.live.specs.Live.{liveBy, lookBy}
+use Rattle.live.specs.Lines.{lineOfEntry}
 use Rattle.live.specs.Vectors.{VectorsHold}
 
 pub vectors-hold : VectorsHold
-unfolding call isInOrder outcomes settle asked committing aborting weigh decide effectOf eventOf entriesOf listsOf accountOf inOrderBy stepBy outlookBy written numbersAt rowOfKind bytesOf numberAt readOf messages messageBy entryRows bytesOfEntry bytesOfEntries wordsOfSlot wordsOfSlots wordsOf storedIn slotFrom isSlot slotsFrom areSlots isAccount fieldsFrom accountFrom sentBy askedBy afterMessage calledBy accountsFrom liveBy lookBy
+unfolding call isInOrder outcomes settle asked committing aborting weigh decide effectOf eventOf entriesOf listsOf accountOf inOrderBy stepBy outlookBy written numbersAt rowOfKind bytesOf numberAt readOf messages messageBy entryRows bytesOfEntry bytesOfEntries wordsOfSlot wordsOfSlots wordsOf storedIn slotFrom isSlot slotsFrom areSlots isAccount fieldsFrom accountFrom sentBy askedBy afterMessage calledBy accountsFrom liveBy lookBy decimalIn lineOf writeLineOf lineOfEntry entry.readOf toldBy verdictBy quoted
 vectors-hold =
     record {
       opens = refl;
@@ -38,5 +42,7 @@ vectors-hold =
       short = refl;
       look = refl;
       noThird = refl;
+      entry = refl;
+      line = refl;
       noAccount = refl;
     }

@@ -5,7 +5,8 @@ use mathlib.Core.List.{List}
 use Rattle.account.specs.declared.Outlook.{Outlook}
 use Rattle.account.specs.First.{panel}
 use Rattle.live.specs.Live.{Live, liveBy, lookBy}
-use Rattle.live.specs.Exports.{ExportedCall, exportedCall, ExportedLook, exportedLook}
+use Rattle.live.specs.Lines.{lineOfEntry}
+use Rattle.live.specs.Exports.{ExportedCall, exportedCall, ExportedLook, exportedLook, ExportedLine, exportedLine}
 
 abbrev pub liveOf : (image bytes buffer : List ℕ) → Live
 liveOf image bytes buffer = liveBy panel image bytes buffer
@@ -18,3 +19,7 @@ exportedCallOf image message entries counts = exportedCall (liveOf image message
 
 abbrev pub exportedLookOf : (image : List ℕ) (account number : ℕ) (state : List ℕ) → ExportedLook
 exportedLookOf image i n state = exportedLook (lookOf image i n) state
+
+-- an entry's line, in which no rule has a say
+abbrev pub exportedLineOf : (entry line counts : List ℕ) → ExportedLine
+exportedLineOf entry line counts = exportedLine (lineOfEntry entry line) counts

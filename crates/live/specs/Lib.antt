@@ -1,5 +1,6 @@
 pub mod Registers
 pub mod Live
+pub mod Lines
 pub mod Exports
 pub mod First
 pub mod Images

@@ -1,10 +1,11 @@
--- Three calls on zeroed memory, word by word (docs/REGISTER.md, 15.2, 15.6 and 15.7): antt computes them from the definitions alone.
+-- Three calls on zeroed memory, word by word (docs/REGISTER.md, 15.2 and 15.6 to 15.9): antt computes them from the definitions alone.
 -- Assumes nothing.
 use Prim.Native.Nat.{ℕ}
 use mathlib.Core.Path.{_≡_}
 use mathlib.Core.List.{List, [], _∷_, _++_}
 use lib.ListN.{take, replicate}
-use Rattle.live.specs.First.{exportedCallOf, exportedLookOf}
+use Rattle.text.specs.Quoted.{quoted}
+use Rattle.live.specs.First.{exportedCallOf, exportedLookOf, exportedLineOf}
 use Rattle.live.specs.Exports.{ExportedCall}
 
 -- on account 2 at second 101: Open 258 under 7, its commit, Withdraw 5 under 9
@@ -34,6 +35,10 @@ committed = beginning (1 ∷ 258 ∷ 0 ∷ 0 ∷ 0 ∷ 0 ∷ 0 ∷ 0 ∷ 0 ∷ 0
 abbrev pub withdrawn : List ℕ
 withdrawn = beginning (1 ∷ 258 ∷ 1 ∷ 0 ∷ 9 ∷ 101 ∷ 1 ∷ 5 ∷ 0 ∷ 0 ∷ 0 ∷ 0 ∷ 0 ∷ [])
 
+-- kind, transaction, account, second, event, amount, outcomes weighed
+abbrev pub accepted : List ℕ
+accepted = 17 ∷ 0 ∷ 0 ∷ 0 ∷ 7 ∷ 0 ∷ 2 ∷ 0 ∷ 0 ∷ 0 ∷ 101 ∷ 1 ∷ 0 ∷ 0 ∷ 1 ∷ 2 ∷ 0 ∷ 1 ∷ []
+
 pub record VectorsHold : Type 0 where
   pub opens : called (replicate 1_344 0) opening .image ≡ opened
   pub openCounts : called (replicate 1_344 0) opening .counts ≡ 15 ∷ 18 ∷ 10 ∷ []
@@ -47,4 +52,8 @@ pub record VectorsHold : Type 0 where
   -- the outcomes: opened, 253 steps and one applied; there is no third
   pub look : exportedLookOf withdrawn 2 1 (9 ∷ 9 ∷ 9 ∷ 9 ∷ []) ≡ record { answer = 0; state = 1 ∷ 253 ∷ 1 ∷ 9 ∷ [] }
   pub noThird : exportedLookOf withdrawn 2 2 (9 ∷ 9 ∷ []) ≡ record { answer = 12; state = 9 ∷ 9 ∷ [] }
+  -- the entry of the opening, and its line
+  pub entry : take 18 (called (replicate 1_344 0) opening .entries) ≡ accepted
+  pub line : exportedLineOf (accepted ++ (20 ∷ [])) (replicate 70 0) (8 ∷ 9 ∷ [])
+      ≡ record { answer = 28; line = quoted "accepted 7 2 101 open 258 1\n" ++ replicate 42 0; counts = 18 ∷ 28 ∷ [] }
   pub noAccount : exportedLookOf withdrawn 16 0 [] .answer ≡ 3

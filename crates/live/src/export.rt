@@ -1,14 +1,16 @@
 // The live calls for callers in C or Rust, by the static library (include/nacozteya.h).
 use crate::call;
+use crate::lines;
 use crate::numbers;
 use crate::question;
 use account::Outlook;
 use events::State;
 ghost use mathlib.Core.Path.{_≡_};
+ghost use mathlib.Core.List.{[], _∷_};
 ghost use lib.ListN.{set};
 ghost use lib.Seq.{sets};
 ghost use Rattle.live.specs.Exports.{stateWords};
-ghost use Rattle.live.specs.First.{exportedCallOf, exportedLookOf};
+ghost use Rattle.live.specs.First.{exportedCallOf, exportedLookOf, exportedLineOf};
 
 // The call, with the bytes consumed and the bytes of entries written in the first places of `counts`, as many as there are; the answer is the number of the refusal, or 0.
 #[no_mangle]
@@ -21,8 +23,11 @@ pub extern "C" fn nacozteya_call(
     ensures { λ r. ⌜ (r ≡ exportedCallOf (now (image .entry)) (now (message .entry)) (now (entries .entry)) (now (counts .entry)) .answer) × (now (image .exit) ≡ exportedCallOf (now (image .entry)) (now (message .entry)) (now (entries .entry)) (now (counts .entry)) .image) × (now (entries .exit) ≡ exportedCallOf (now (image .entry)) (now (message .entry)) (now (entries .entry)) (now (counts .entry)) .entries) × (now (counts .exit) ≡ exportedCallOf (now (image .entry)) (now (message .entry)) (now (entries .entry)) (now (counts .entry)) .counts) ⌝ }
 {
     let reply = call::call_image(image, message, entries);
-    put_count(counts, 0, numbers::consumed_of(reply));
-    put_count(counts, 1, numbers::written_of(reply));
+    put_counts(
+        counts,
+        numbers::consumed_of(reply),
+        numbers::written_of(reply),
+    );
     register::refusal_of(reply) as u64
 }
 
@@ -44,6 +49,24 @@ pub extern "C" fn nacozteya_outlook(
             0
         }
     }
+}
+
+// The line of an entry, with the bytes of the entry and those of its line in the first places of `counts`, as many as there are; the answer is the length of the line, 0 where there is none.
+#[no_mangle]
+pub extern "C" fn nacozteya_line(entry: &[u8], line: &mut [u8], counts: &mut [u64]) -> u64
+    ensures { λ r. ⌜ (r ≡ exportedLineOf (now (entry .entry)) (now (line .entry)) (now (counts .entry)) .answer) × (now (line .exit) ≡ exportedLineOf (now (entry .entry)) (now (line .entry)) (now (counts .entry)) .line) × (now (counts .exit) ≡ exportedLineOf (now (entry .entry)) (now (line .entry)) (now (counts .entry)) .counts) ⌝ }
+{
+    let lined = lines::write_entry_line(entry, line);
+    put_counts(counts, lined.entry, lined.line);
+    lined.line as u64
+}
+
+// Stores two counts in the first places, as many as there are.
+fn put_counts(counts: &mut [u64], first: usize, second: usize)
+    ensures { λ _. ⌜ now (counts .exit) ≡ sets (now (counts .entry)) 0 (first ∷ second ∷ []) ⌝ }
+{
+    put_count(counts, 0, first);
+    put_count(counts, 1, second);
 }
 
 // Stores what is known of a state in the first places, as many as there are.

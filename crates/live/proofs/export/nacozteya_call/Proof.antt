@@ -1,4 +1,4 @@
--- What the call ensures, and the two stores one after the other.
+-- What the call ensures, and the counts.
 -- Assumes nothing.
 use mathlib.Core.Path.{ap, _∙_}
 use Rattle.register.specs.Run.{replyNumber}
@@ -12,14 +12,11 @@ call-image-requires c κs = search needs
 consumed-of-requires : tie.Need-consumed-of-requires
 consumed-of-requires c κs = search needs
 
-put-count-requires : tie.Need-put-count-requires
-put-count-requires c κs = search needs
-
 written-of-requires : tie.Need-written-of-requires
 written-of-requires c κs = search needs
 
-put-count-requires-2 : tie.Need-put-count-requires-2
-put-count-requires-2 c κs = search needs
+put-counts-requires : tie.Need-put-counts-requires
+put-counts-requires c κs = search needs
 
 refusal-of-requires : tie.Need-refusal-of-requires
 refusal-of-requires c κs = search needs
@@ -38,14 +35,12 @@ same-length-3 c = search needs
 
 returns : tie.Need-returns
 returns c =
-    let two = c .before .before .before in
-    let one = two .before .before .before .before .before in
-    let lent = one .before .before .before in
-    let called = lent .before .before .before .before .call-image in
-    let given = called .ensures in
-    let written = two .before .written-of .ensures in
-    let consumed = one .before .consumed-of .ensures in
-    (c .refusal-of .ensures ∙ ap replyNumber (given .0), given .1, given .2, rw (two .put-count2 .ensures, one .put-count .ensures, written, consumed, given .0))
+    let stored = c .before .before .before in
+    let written = stored .before in
+    let consumed = written .before in
+    let lent = consumed .before .before .before in
+    let given = lent .before .before .before .call-image .ensures in
+    (c .refusal-of .ensures ∙ ap replyNumber (given .0), given .1, given .2, rw (stored .put-counts .ensures, written .written-of .ensures, consumed .consumed-of .ensures, given .0))
 
 pub nacozteya-call-spec : {M : Type 1} → statement M
 nacozteya-call-spec =
@@ -53,9 +48,8 @@ nacozteya-call-spec =
     (tie.spec
     call-image-requires
     consumed-of-requires
-    put-count-requires
     written-of-requires
-    put-count-requires-2
+    put-counts-requires
     refusal-of-requires
     cast-result
     same-length
