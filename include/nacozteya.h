@@ -7,7 +7,7 @@
  * the run against `exportOf` in crates/register/specs/First.antt (contract in
  * crates/register/src/export.rt), the others against `exportedCallOf`, `exportedLookOf` and
  * `exportedLineOf` in crates/live/specs/First.antt (contracts in crates/live/src/export.rt). Nothing checks these
- * declarations against the contracts.
+ * declarations against the contracts; the lengths below are tested (bindings/rust/tests).
  *
  * What the caller ensures, of every function:
  *   - no pointer is null, also where its length is 0, and each buffer is as long as its length says;
