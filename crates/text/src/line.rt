@@ -23,7 +23,7 @@ pub fn write_line(entry: Entry, account: u16, buffer: &mut [u8]) -> Writing
     Writing::Written(put_line(buffer, 0, entry, account))
 }
 
-// Stores the line of an entry of that account from `at` on.
+// Stores the line of an entry of that account from `at` on. Its pieces have 73 bytes at most, each by itself; the line has fewer, since an account's number is short.
 pub(crate) fn put_line(buffer: &mut [u8], at: usize, entry: Entry, account: u16) -> usize
     requires { ⌜ at + 73 ≤ farthest ⌝ }
     ensures { λ r. ⌜ Put (lineOf account entry) at longestLine (now (buffer .entry)) r (now (buffer .exit)) ⌝ }
