@@ -1,4 +1,4 @@
-//! Where the static library is that the feature `proved` links; a new one is linked anew.
+//! Where the static libraries are that the feature `proved` links; a new one is linked anew.
 
 fn main() {
     println!("cargo:rerun-if-changed=build.rs");
@@ -6,5 +6,6 @@ fn main() {
         let folder = concat!(env!("CARGO_MANIFEST_DIR"), "/../target/staticlib");
         println!("cargo:rustc-link-search=native={folder}");
         println!("cargo:rerun-if-changed={folder}/libregister.a");
+        println!("cargo:rerun-if-changed={folder}/liblive.a");
     }
 }

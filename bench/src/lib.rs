@@ -19,6 +19,7 @@ pub mod outcomes;
 pub mod message;
 pub mod entry;
 pub mod image;
+pub mod words;
 pub mod account;
 pub mod order;
 pub mod register;
@@ -26,6 +27,8 @@ pub mod run;
 pub mod program;
 pub mod probe;
 pub mod exported;
+pub mod live;
+pub mod kept;
 pub mod rules;
 
 // The wrong versions of it.

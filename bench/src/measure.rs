@@ -20,6 +20,8 @@ pub enum Runner {
     Limit,
     /// The proved register.
     Proved,
+    /// The same, a call on an image for each message.
+    Live,
 }
 
 impl Runner {
@@ -27,7 +29,7 @@ impl Runner {
     pub fn all() -> Vec<Runner> {
         let mut runners = vec![Runner::Independent, Runner::Judged, Runner::OneAtATime, Runner::Limit];
         if proved::LINKED {
-            runners.push(Runner::Proved);
+            runners.extend([Runner::Proved, Runner::Live]);
         }
         runners
     }
@@ -40,6 +42,7 @@ impl Runner {
             Runner::OneAtATime => "one at a time",
             Runner::Limit => "limit",
             Runner::Proved => "proved",
+            Runner::Live => "live",
         }
     }
 
@@ -54,6 +57,7 @@ impl Runner {
                 Run { met, refused, entries: room[..written as usize].to_vec() }
             }
             Runner::Proved => proved::run(messages, room),
+            Runner::Live => proved::live_run(messages, room),
         }
     }
 }

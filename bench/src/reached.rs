@@ -26,12 +26,34 @@ const RUNS: [&str; 13] = [
     "no message",
 ];
 
+/// What the words of an account can be, and what a line can be.
+const IMAGES: [&str; 14] = [
+    "an account",
+    "too few words",
+    "a life above 2",
+    "an event above 3",
+    "a Close with an amount",
+    "a decision above 1",
+    "0 places",
+    "1 place",
+    "2 places",
+    "3 places",
+    "a line",
+    "no entry",
+    "line with room 67",
+    "line with room below 67",
+];
+
 impl Tally {
     /// What the streams of a run should have reached and did not.
     pub fn lacking(&self, target: Target) -> Vec<String> {
         let mut checks = self.common(target);
         match target {
             Target::Program => checks.extend(self.seen_lines(&LINES)),
+            Target::Kept | Target::Shared => checks.extend(self.seen_lines(&["refused", "end", "account"])),
+            Target::Live => {
+                checks.extend(IMAGES.map(|image| (format!("image: {image}"), self.images.contains_key(image))))
+            }
             Target::Probe => {
                 checks.extend(self.seen_lines(&LINES));
                 checks.extend(self.seen_lines(&PROBE_LINES));
@@ -49,8 +71,8 @@ impl Tally {
     /// What every target should reach: entries, refusals, counts of outcomes, balances at either end.
     fn common(&self, target: Target) -> Vec<(String, bool)> {
         let refusals: &[u32] = match target {
-            Target::Program => &[1, 2, 3, 6, 7, 8, 9, 10, 11],
-            Target::Probe => &[1, 2, 3, 4, 5, 6, 7, 8, 9, 10, 11, 12],
+            Target::Program | Target::Kept | Target::Shared => &[1, 2, 3, 6, 7, 8, 9, 10, 11],
+            Target::Probe | Target::Live => &[1, 2, 3, 4, 5, 6, 7, 8, 9, 10, 11, 12],
             Target::Exported => &[1, 2, 3, 4, 6, 7, 8, 9, 10, 11],
         };
         let mut checks: Vec<(String, bool)> = self.seen_lines(&entries()).collect();

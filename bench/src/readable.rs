@@ -5,6 +5,7 @@ use crate::exported::{asked, HEAD};
 use crate::message::{self, Head, Message};
 use crate::probe::split;
 use crate::subject::Target;
+use crate::words::ACCOUNT;
 
 /// The messages or frames of a stream, and as the last piece what is neither; a run's head is its first piece.
 pub fn pieces(target: Target, bytes: &[u8]) -> Vec<Vec<u8>> {
@@ -13,8 +14,8 @@ pub fn pieces(target: Target, bytes: &[u8]) -> Vec<Vec<u8>> {
     while !rest.is_empty() {
         let length = match target {
             Target::Exported if pieces.is_empty() => Some(HEAD.min(rest.len())),
-            Target::Program | Target::Exported => message::length(rest[0]).filter(|length| *length <= rest.len()),
-            Target::Probe => split(rest).map(|(_, payload, _)| 3 + payload.len()),
+            Target::Probe | Target::Live => split(rest).map(|(_, payload, _)| 3 + payload.len()),
+            _ => message::length(rest[0]).filter(|length| *length <= rest.len()),
         };
         let (piece, after) = rest.split_at(length.unwrap_or(rest.len()));
         pieces.push(piece.to_vec());
@@ -30,11 +31,12 @@ pub fn line(target: Target, piece: &[u8]) -> String {
             let (room, places, _) = asked(piece);
             format!("run, room {room}, {places} places for counts")
         }
-        Target::Program | Target::Exported => message_line(piece),
-        Target::Probe => match split(piece) {
+        Target::Probe | Target::Live => match split(piece) {
+            Some((code, payload, _)) if target == Target::Live => live_line(code, payload),
             Some((code, payload, _)) => frame_line(code, payload),
             None => format!("torn {}", shortened(piece)),
         },
+        _ => message_line(piece),
     }
 }
 
@@ -71,6 +73,31 @@ fn frame_line(code: u8, payload: &[u8]) -> String {
         (65, 2..) => format!("run, room {}: bytes {}", numbers.next(2), shortened(&payload[2..])),
         (67, _) => format!("line of text: bytes {}", shortened(payload)),
         (68, 15) => step_line(&mut numbers),
+        _ => format!("frame {code}: bytes {}", shortened(payload)),
+    }
+}
+
+/// A frame of the calls on an image in words.
+fn live_line(code: u8, payload: &[u8]) -> String {
+    let mut numbers = Numbers { bytes: payload };
+    match (code, payload.len()) {
+        (1, 3..) => {
+            let (room, places) = (numbers.next(2), numbers.next(1));
+            format!("call, room {room}, {places} places: {}", message_line(numbers.bytes))
+        }
+        (2, 7) => {
+            let (account, number) = (numbers.next(2), numbers.next(4));
+            format!("outcome of account {account}, number {number}, {} places", numbers.next(1))
+        }
+        (3, 6) => {
+            let at = numbers.next(2) as usize;
+            format!("word {at} (account {}, its word {}) set to {}", at / ACCOUNT, at % ACCOUNT, numbers.next(4))
+        }
+        (4, 2) => format!("{} words lent", numbers.next(2)),
+        (5, 3..) => {
+            let (room, places) = (numbers.next(2), numbers.next(1));
+            format!("line, room {room}, {places} places: bytes {}", shortened(numbers.bytes))
+        }
         _ => format!("frame {code}: bytes {}", shortened(payload)),
     }
 }

@@ -40,6 +40,7 @@ fn print_tally(tally: &Tally) {
     }
     print_counts("frames from 64 on", &tally.later);
     print_counts("runs", &tally.runs);
+    print_counts("images", &tally.images);
     for (clause, count) in &tally.alone {
         println!("  calls where only this is broken: {clause}   {count}");
     }

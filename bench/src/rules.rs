@@ -7,15 +7,17 @@
 use crate::account::AccountRules;
 use crate::entry::EntryRules;
 use crate::event::EventRules;
+use crate::live::{self, LiveRules};
 use crate::message::MessageRules;
 use crate::order::OrderRules;
 use crate::probe::{self, ProbeRules};
 use crate::register::RegisterRules;
 use crate::run::RunRules;
-use crate::{exported, program};
+use crate::words::WordRules;
+use crate::{exported, kept, program};
 
 /// What each target prints on an input.
-pub trait Rules: ProbeRules + Copy {
+pub trait Rules: ProbeRules + LiveRules + Copy {
     fn program_text(&self, input: &[u8]) -> String {
         program::text(input, self)
     }
@@ -26,6 +28,14 @@ pub trait Rules: ProbeRules + Copy {
 
     fn exported_text(&self, input: &[u8]) -> String {
         exported::text(input, self)
+    }
+
+    fn live_text(&self, input: &[u8]) -> String {
+        live::text(input, self)
+    }
+
+    fn kept_text(&self, input: &[u8]) -> String {
+        kept::text(input, self)
     }
 }
 
@@ -38,13 +48,14 @@ macro_rules! as_told {
 #[derive(Clone, Copy, PartialEq, Eq, Debug)]
 pub struct Document;
 
-as_told!(Document: EventRules MessageRules EntryRules AccountRules OrderRules RegisterRules RunRules ProbeRules Rules);
+as_told!(Document: EventRules MessageRules EntryRules AccountRules OrderRules RegisterRules RunRules ProbeRules);
+as_told!(Document: WordRules LiveRules Rules);
 
 /// The same, and each call judges anew that its account is in order.
 #[derive(Clone, Copy, PartialEq, Eq, Debug)]
 pub struct Judged;
 
-as_told!(Judged: EventRules MessageRules EntryRules AccountRules OrderRules RunRules ProbeRules Rules);
+as_told!(Judged: EventRules MessageRules EntryRules AccountRules OrderRules RunRules ProbeRules WordRules LiveRules Rules);
 
 impl RegisterRules for Judged {
     fn judged(&self) -> bool {
@@ -56,7 +67,7 @@ impl RegisterRules for Judged {
 #[derive(Clone, Copy, PartialEq, Eq, Debug)]
 pub struct Places(pub usize);
 
-as_told!(Places: EventRules MessageRules EntryRules OrderRules RegisterRules RunRules ProbeRules Rules);
+as_told!(Places: EventRules MessageRules EntryRules OrderRules RegisterRules RunRules ProbeRules WordRules LiveRules Rules);
 
 impl AccountRules for Places {
     fn places(&self) -> usize {

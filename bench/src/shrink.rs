@@ -49,7 +49,11 @@ impl<F: Fn(&[u8]) -> bool> Search<F> {
 
     /// Other amounts, where the stream gets shorter by them.
     fn other_amounts(&self, target: Target, mut kept: Vec<Vec<u8>>) -> Vec<Vec<u8>> {
-        let (at, whole) = if target == Target::Probe { (16, 20) } else { (11, 15) };
+        let (at, whole) = match target {
+            Target::Probe => (16, 20),
+            Target::Live => (17, 21),
+            _ => (11, 15),
+        };
         let mut piece = 0;
         while piece < kept.len().min(200) && !self.over() {
             let tries = AMOUNTS.iter().filter(|_| kept[piece].len() >= whole).find_map(|amount| {
@@ -103,7 +107,7 @@ impl<F: Fn(&[u8]) -> bool> Search<F> {
 
     /// Bytes of the bodies made 0 where that leaves the difference.
     fn plainer(&self, target: Target, mut kept: Vec<Vec<u8>>) -> Vec<Vec<u8>> {
-        let head = if target == Target::Probe { 3 } else { 1 };
+        let head = if matches!(target, Target::Probe | Target::Live) { 3 } else { 1 };
         if kept.iter().map(Vec::len).sum::<usize>() > 2_000 {
             return kept;
         }

@@ -7,16 +7,24 @@ use std::sync::mpsc::channel;
 use std::thread;
 use std::time::Duration;
 
-/// The programs that read bytes and print text; the last makes the exported call.
+/// The programs that read bytes and print text: the program, the probe, those that make the exported run and the calls
+/// on an image, and the examples that keep a register, in C and in Rust.
 #[derive(Clone, Copy, PartialEq, Eq, Debug)]
 pub enum Target {
     Program,
     Probe,
     Exported,
+    Live,
+    Kept,
+    Shared,
 }
 
 impl Target {
-    pub const ALL: [Target; 3] = [Target::Program, Target::Probe, Target::Exported];
+    pub const ALL: [Target; 6] =
+        [Target::Program, Target::Probe, Target::Exported, Target::Live, Target::Kept, Target::Shared];
+
+    /// Those by which wrong versions are found: the examples print what the program prints.
+    pub const FINDING: [Target; 4] = [Target::Program, Target::Probe, Target::Exported, Target::Live];
 
     /// The name in reports.
     pub fn name(self) -> &'static str {
@@ -24,6 +32,9 @@ impl Target {
             Target::Program => "program",
             Target::Probe => "probe",
             Target::Exported => "exported",
+            Target::Live => "live",
+            Target::Kept => "kept",
+            Target::Shared => "shared",
         }
     }
 
@@ -33,6 +44,8 @@ impl Target {
             Target::Program => rules.program_text(input),
             Target::Probe => rules.probe_text(input),
             Target::Exported => rules.exported_text(input),
+            Target::Live => rules.live_text(input),
+            Target::Kept | Target::Shared => rules.kept_text(input),
         }
     }
 }
@@ -70,6 +83,9 @@ pub struct Built {
     pub program: Vec<String>,
     pub probe: Vec<String>,
     pub exported: Vec<String>,
+    pub live: Vec<String>,
+    pub kept: Vec<String>,
+    pub shared: Vec<String>,
 }
 
 /// How long a built program may take for one stream.
@@ -86,7 +102,7 @@ impl Subject for Built {
     }
 
     fn answer_unread(&self, target: Target) -> Option<Result<Vec<u8>, String>> {
-        if target == Target::Exported {
+        if matches!(target, Target::Exported | Target::Live) {
             return None;
         }
         // A folder can be opened, and every read of it fails.
@@ -123,6 +139,9 @@ impl Built {
             Target::Program => &self.program,
             Target::Probe => &self.probe,
             Target::Exported => &self.exported,
+            Target::Live => &self.live,
+            Target::Kept => &self.kept,
+            Target::Shared => &self.shared,
         }
     }
 }

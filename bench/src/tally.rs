@@ -1,15 +1,19 @@
 //! What the streams of a run reached, counted from the model's text.
 
+use crate::bytes::hex;
 use crate::entry::{Entry, EntryRules};
 use crate::exported::asked;
 use crate::image::Image;
-use crate::limits::{LIMIT, LONGEST, ROOM};
+use crate::limits::{ACCOUNTS, LIMIT, LONGEST, ROOM};
+use crate::live::{told, Lender, LiveRules};
+use crate::message::MessageRules;
 use crate::order::broken;
 use crate::probe::{split, ProbeRules};
 use crate::register::{Register, RegisterRules};
 use crate::rules::Document;
 use crate::run::RunRules;
 use crate::subject::Target;
+use crate::words::{ACCOUNT, HEAD, PLACE};
 use std::collections::BTreeMap;
 
 /// Counts over the streams of one program.
@@ -32,6 +36,8 @@ pub struct Tally {
     pub later: BTreeMap<String, u64>,
     /// Runs by what they are lent, and those in which the room runs out.
     pub runs: BTreeMap<String, u64>,
+    /// Calls and questions on images by what the words of their account are, and lines by whether there is one.
+    pub images: BTreeMap<&'static str, u64>,
 }
 
 impl Tally {
@@ -40,9 +46,14 @@ impl Tally {
         self.streams += 1;
         self.bytes += input.len() as u64;
         match target {
-            Target::Program => text.lines().for_each(|line| self.add_line(target, line)),
+            Target::Program | Target::Kept | Target::Shared => {
+                text.lines().for_each(|line| self.add_line(Target::Program, line))
+            }
             Target::Probe => self.add_frames(input, text),
             Target::Exported => self.add_run(input),
+            Target::Live => {
+                told(input, &mut Counted(self));
+            }
         }
     }
 
@@ -128,6 +139,31 @@ impl Tally {
         }
     }
 
+    /// Counts what a call on an image finds at the words of the account that it names.
+    fn add_words(&mut self, image: &[u32], account: u16) {
+        if usize::from(account) < ACCOUNTS {
+            let words = image.get(usize::from(account) * ACCOUNT..).unwrap_or_default();
+            count(&mut self.images, words_name(words));
+        }
+    }
+
+    /// Counts a refusal, if it is one.
+    fn refused(&mut self, answer: Result<(), u8>, places: usize) -> u64 {
+        count(
+            &mut self.images,
+            match places {
+                0 => "0 places",
+                1 => "1 place",
+                2 => "2 places",
+                _ => "3 places",
+            },
+        );
+        answer.err().map_or(0, |number| {
+            count(&mut self.refusals, u32::from(number));
+            number.into()
+        })
+    }
+
     /// Counts a balance at either end.
     fn applied(&mut self, event: &str, balance: u32) {
         self.emptied += u64::from(event == "withdraw" && balance == 0);
@@ -155,6 +191,52 @@ impl Tally {
             Entry::Applied { request, balance } => self.applied(request.event.name(), balance),
             Entry::Noted { .. } | Entry::Dropped { .. } => {}
         }
+    }
+}
+
+/// The calls on an image by the model, counted.
+struct Counted<'a>(&'a mut Tally);
+
+impl Lender for Counted<'_> {
+    fn call(&mut self, image: &mut [u32], message: &[u8], entries: &mut [u8], counts: &mut [u64]) -> u64 {
+        if let Ok((message, _)) = Document.read(message) {
+            self.0.add_words(image, message.head().account);
+        }
+        let called = Document.live_call(image, message, entries);
+        let written = called.map_or(0, |called| called.1);
+        self.0.written(&hex(&entries[..written]));
+        self.0.refused(called.map(|_| ()), counts.len())
+    }
+
+    fn outlook(&mut self, image: &[u32], account: u16, number: u32, state: &mut [u32]) -> u64 {
+        self.0.add_words(image, account);
+        self.0.refused(Document.live_outlook(image, account, number).map(|_| ()), state.len())
+    }
+
+    fn line(&mut self, entry: &[u8], line: &mut [u8], _: &mut [u64]) -> u64 {
+        let read = Document.read_entry(entry).is_some();
+        let name = match (read, line.len()) {
+            (false, _) => "no entry",
+            (true, ..67) => "line with room below 67",
+            (true, 67) => "line with room 67",
+            (true, _) => "a line",
+        };
+        count(&mut self.0.images, name);
+        0
+    }
+}
+
+/// What the words of an account are, or what makes them none.
+fn words_name(words: &[u32]) -> &'static str {
+    let Some(words) = words.get(..ACCOUNT) else { return "too few words" };
+    let mut places = words[HEAD..].chunks(PLACE);
+    let all = places.clone();
+    match words[0] {
+        3.. => "a life above 2",
+        _ if places.any(|place| place[2] > 3) => "an event above 3",
+        _ if all.clone().any(|place| place[2] == 3 && place[3] > 0) => "a Close with an amount",
+        _ if all.clone().any(|place| place[4] > 1) => "a decision above 1",
+        _ => "an account",
     }
 }
 

@@ -12,8 +12,12 @@ const USAGE: &str = "benchmark [--rounds N] [--messages N] [--ticks N] [--seed N
           [--profile N [--of VERSION]]";
 
 /// Further columns of the first table: one version against another.
-const AGAINST: [(Runner, Runner); 3] =
-    [(Runner::Proved, Runner::Judged), (Runner::Proved, Runner::OneAtATime), (Runner::Proved, Runner::Limit)];
+const AGAINST: [(Runner, Runner); 4] = [
+    (Runner::Proved, Runner::Judged),
+    (Runner::Proved, Runner::OneAtATime),
+    (Runner::Proved, Runner::Limit),
+    (Runner::Live, Runner::Proved),
+];
 
 /// What the command line asks for.
 struct Options {

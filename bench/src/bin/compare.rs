@@ -8,8 +8,8 @@ use independent::subject::{Built, Subject, Target};
 use std::process::ExitCode;
 use std::time::{Duration, Instant, SystemTime, UNIX_EPOCH};
 
-const USAGE: &str = "compare [--program COMMAND] [--probe COMMAND] [--exported COMMAND] [--seed N|clock] [--streams N]
-        [--seconds N] [--long] [--only N] [--faults]
+const USAGE: &str = "compare [--program COMMAND] [--probe COMMAND] [--exported COMMAND] [--live COMMAND]
+        [--kept COMMAND] [--shared COMMAND] [--seed N|clock] [--streams N] [--seconds N] [--long] [--only N] [--faults]
 COMMAND is the path of a built program, or words that start it. What is not given is not compared.";
 
 /// What the command line asks for.
@@ -59,6 +59,9 @@ fn options(mut words: impl Iterator<Item = String>) -> Option<Options> {
             "--program" => options.built.program = command(&words.next()?),
             "--probe" => options.built.probe = command(&words.next()?),
             "--exported" => options.built.exported = command(&words.next()?),
+            "--live" => options.built.live = command(&words.next()?),
+            "--kept" => options.built.kept = command(&words.next()?),
+            "--shared" => options.built.shared = command(&words.next()?),
             "--seed" => options.seed = seed(&words.next()?)?,
             "--streams" => options.streams = words.next()?.parse().ok()?,
             "--seconds" => options.seconds = Some(words.next()?.parse().ok()?),
@@ -87,21 +90,23 @@ fn seed(word: &str) -> Option<u64> {
 
 /// Lists every fault with the number of streams until it is found, and a short stream that shows it.
 fn print_faults(seed: u64, most: u64) -> bool {
-    println!("seed {seed}, up to {most} streams each; streams until found by program, probe and exported call");
+    println!(
+        "seed {seed}, up to {most} streams each; streams until found by program, probe, exported run and live calls"
+    );
     let (mut passed, mut failed) = (0, 0);
     for fault in Fault::all() {
-        let counts = Target::ALL.map(|target| (target, streams_until(fault, target, seed, most)));
+        let counts = Target::FINDING.map(|target| (target, streams_until(fault, target, seed, most)));
         let shown = counts.map(|(_, count)| count.map_or("-".to_string(), |count| count.to_string()));
-        println!("{:>4} {:>4} {:>4}  {}", shown[0], shown[1], shown[2], fault.says());
+        println!("{:>4} {:>4} {:>4} {:>4}  {}", shown[0], shown[1], shown[2], shown[3], fault.says());
         let Some((target, streams)) = counts.into_iter().find_map(|(target, count)| Some((target, count?))) else {
             failed += 1;
             continue;
         };
         passed += 1;
         let short = pieces(target, &shortest(fault, target, seed, streams));
-        short.iter().take(12).for_each(|piece| println!("                  {}", line(target, piece)));
+        short.iter().take(12).for_each(|piece| println!("                       {}", line(target, piece)));
         if short.len() > 12 {
-            println!("                  .. and {} more", short.len() - 12);
+            println!("                       .. and {} more", short.len() - 12);
         }
     }
     println!("{passed} passed, {failed} failed");

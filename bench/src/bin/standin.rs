@@ -6,7 +6,7 @@ use independent::subject::Target;
 use std::io::{Read, Write};
 use std::process::ExitCode;
 
-const USAGE: &str = "standin program|probe|exported [FAULT]";
+const USAGE: &str = "standin program|probe|exported|live|kept|shared [FAULT]";
 
 /// Prints the text for standard input.
 fn main() -> ExitCode {

@@ -99,4 +99,11 @@ faults! {
     NextByteTouched: "a run touches the byte after its entries",
     RegisterKept: "a run goes on with the register of the run before it",
     FourPlacesOrNone: "the counts of a run are stored only where there are four places",
+    ShortImageFresh: "words that an image does not have count as 0",
+    LifeAboveTwo: "a life above 2 in an image counts as closed",
+    EventAboveThree: "an event above 3 in an image counts as Close",
+    CloseWithAmount: "the amount of a Close in an image is not looked at",
+    DecisionAboveOne: "a decision above 1 in an image counts as committed",
+    NeighbourTouched: "a call writes to the words of another account",
+    RefusalTouches: "a refused call writes to the image",
 }

@@ -4,6 +4,7 @@ mod list;
 mod account;
 mod codec;
 mod call;
+mod image;
 mod text;
 
 pub use list::{Fault, Wrong};

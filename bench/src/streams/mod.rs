@@ -1,4 +1,4 @@
-//! Seeded streams of bytes for the program, for the probe and for the exported call.
+//! Seeded streams of bytes for each target.
 
 pub mod amount;
 pub mod traffic;
@@ -8,6 +8,8 @@ pub mod codecs;
 pub mod disturbance;
 pub mod runs;
 pub mod probe;
+pub mod images;
+pub mod keeping;
 
 use crate::random::Random;
 use crate::subject::Target;
@@ -26,6 +28,8 @@ pub fn stream(target: Target, seed: u64, number: u64) -> Stream {
         Target::Program => &messages::KINDS,
         Target::Probe => &probe::KINDS,
         Target::Exported => &runs::KINDS,
+        Target::Live => &images::KINDS,
+        Target::Kept | Target::Shared => &keeping::KINDS,
     };
     let kind = (number % kinds.len() as u64) as usize;
     let random = Random::of(seed ^ target as u64, number);
@@ -33,6 +37,8 @@ pub fn stream(target: Target, seed: u64, number: u64) -> Stream {
         Target::Program => messages::stream(kind, random),
         Target::Probe => probe::stream(kind, random),
         Target::Exported => runs::stream(kind, random),
+        Target::Live => images::stream(kind, random),
+        Target::Kept | Target::Shared => keeping::stream(kind, number, random),
     };
     Stream { target, after: kinds[kind], bytes }
 }
