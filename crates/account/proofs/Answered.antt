@@ -1,9 +1,9 @@
--- A step by its answer: what the answer refuses is refused so, and what it takes is the rule's step, of an account in order.
+-- A step by its answer: what the answer refuses is refused so, and what it takes is the rule's step, of an account in order. By any rule of the events.
 -- Assumes nothing.
 use Prim.Native.Nat.{ℕ}
 use mathlib.Core.Path.{_≡_, refl, sym, ap, _∙_}
 use mathlib.Core.Bool.{Bool, true, false, cond}
-use mathlib.Core.Option.{none, some}
+use mathlib.Core.Option.{Option, none, some}
 use native.Mathlib.Omega.{arith}
 use lib.ListN.{length}
 use Rattle.rule.specs.Rule as rule
@@ -21,14 +21,23 @@ use Rattle.account.specs.declared.judging.Judged.{Judged}
 use Rattle.account.specs.Places.{listsOf}
 use Rattle.account.specs.InOrder.{inOrderBy}
 use Rattle.account.specs.Steps.{refusalIn, refusedStep, stepBy}
-use Rattle.account.specs.First.{panel, inOrderOf}
-use Rattle.account.specs.inside.Judged.{Judges, answerBy, messageAsks, messageNames}
+use Rattle.account.specs.inside.Judged.{JudgesBy, answerBy, messageAsks, messageNames}
 use Rattle.account.specs.inside.Taken.{takenAs}
 use Rattle.account.proofs.Clauses.{clauses}
+use Rattle.account.proofs.Ranged.{Ranged}
 use Rattle.account.proofs.Judged.{judged-refusal}
 
+module _ (R : rule.Rule State Event ℕ) (a : Account) (m : rule.Message Filed Event) where
+  -- the number of the refusal that a message gets, if it gets one
+  abbrev pub refusalBy : Option ℕ
+  refusalBy = cond (inOrderBy R a) (refusal R (listsOf a) m) (some 5)
+
+  -- a message that is taken, of an account in order
+  abbrev pub TakenBy : Type 0
+  TakenBy = (inOrderBy R a ≡ true) × (refusal R (listsOf a) m ≡ none)
+
 module _ (R : rule.Rule State Event ℕ) (a : Account) (m : rule.Message Filed Event) (answer : Answer)
-    (says : refusalIn answer ≡ cond (inOrderBy R a) (refusal R (listsOf a) m) (some 5)) where
+    (says : refusalIn answer ≡ refusalBy R a m) where
   pub answer-refused : (n : ℕ) → answer ≡ Answer′.Refused n → refusedStep a answer ≡ stepBy R a m
   unfolding stepBy call
   answer-refused n e = ap (refusedStep a) e ∙ by (inOrderBy R a) refl (sym (ap refusalIn e) ∙ says)
@@ -37,7 +46,7 @@ module _ (R : rule.Rule State Event ℕ) (a : Account) (m : rule.Message Filed E
       by true o h = rw (o, ← h)
       by false o h = rw o (ap (λ (k : ℕ). refusedStep a (Answer′.Refused k)) (let z : n ≡ 5 = cc in z))
 
-  pub answer-order : answer ≡ Answer′.Taken → (inOrderBy R a ≡ true) × (refusal R (listsOf a) m ≡ none)
+  pub answer-order : answer ≡ Answer′.Taken → TakenBy R a m
   answer-order e = by (inOrderBy R a) (sym (ap refusalIn e) ∙ says)
     where
       by : (b : Bool) → none ≡ cond b (refusal R (listsOf a) m) (some 5) → (b ≡ true) × (refusal R (listsOf a) m ≡ none)
@@ -49,11 +58,11 @@ module _ (R : rule.Rule State Event ℕ) (a : Account) (m : rule.Message Filed E
   answer-taken e = rw (answer-order e .0, answer-order e .1)
 
 -- the answer by what judging found, whatever the counts are
-pub judged-answer : (a : Account) (j : Judged) → length (a .held) ≡ places → (m : rule.Message Filed Event) → Judges a (messageNames m) j
-    → refusalIn (answerBy j (messageAsks m) (a .holding)) ≡ cond (inOrderOf a) (refusal panel (listsOf a) m) (some 5)
+pub judged-answer : (R : rule.Rule State Event ℕ) → Ranged R → (a : Account) (j : Judged) → length (a .held) ≡ places → (m : rule.Message Filed Event) → JudgesBy R a (messageNames m) j
+    → refusalIn (answerBy R j (messageAsks m) (a .holding)) ≡ refusalBy R a m
 unfolding answerBy
-judged-answer a j many m judges = by (inOrderOf a) refl
+judged-answer R ranged a j many m judges = by (inOrderBy R a) refl
   where
-    by : (b : Bool) → inOrderOf a ≡ b → refusalIn (answerBy j (messageAsks m) (a .holding)) ≡ cond (inOrderOf a) (refusal panel (listsOf a) m) (some 5)
-    by true o = judged-refusal a j (omega (arith, clauses panel a o .holding)) m judges
+    by : (b : Bool) → inOrderBy R a ≡ b → refusalIn (answerBy R j (messageAsks m) (a .holding)) ≡ refusalBy R a m
+    by true o = judged-refusal R a j (omega (arith, clauses R a o .holding, ranged .fewHeld)) m judges
     by false o = rw (judges .ordered, o)

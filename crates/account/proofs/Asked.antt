@@ -1,4 +1,4 @@
--- A request that is taken, in places: it stands behind the events in progress, behind the requests held, or nowhere, by its verdict.
+-- A request that is taken, in places: it stands behind the events in progress, behind the requests held, or nowhere, by its verdict. By any rule of the events.
 -- Assumes nothing.
 use Prim.Native.Nat.{ℕ, _+_, _<_}
 use mathlib.Core.Path.{_≡_, sym, ap, _∙_}
@@ -6,7 +6,7 @@ use mathlib.Core.Bool.{true}
 use mathlib.Core.List.{List, [], _∷_, _++_}
 use mathlib.Core.Option.{none}
 use native.Mathlib.Omega.{arith}
-use lib.Dec.{leb, lit≤}
+use lib.Dec.{leb}
 use lib.ListN.{length, set, length-append}
 use borrow.Author.Tests.{leb-false}
 use Rattle.rule.specs.Lists.{some-of}
@@ -33,10 +33,11 @@ use Rattle.account.specs.declared.Answer.the-variants as Answer′
 use Rattle.account.specs.declared.Stepped.{Stepped}
 use Rattle.account.specs.declared.outcomes.Outcomes.{Outcomes}
 use Rattle.account.specs.Places.{RuleAccount, padded, listsOf, accountOf}
-use Rattle.account.specs.First.{panel, inOrderOf}
-use Rattle.account.specs.inside.Known.{Knows, Decides}
+use Rattle.account.specs.InOrder.{inOrderBy}
+use Rattle.account.specs.inside.Known.{KnowsBy, DecidesBy}
 use Rattle.account.specs.inside.Taken.{takenAs}
 use Rattle.account.proofs.Padded.{RowOf, progress-row, held-row, state-is, account-is}
+use Rattle.account.proofs.Ranged.{Ranged}
 use Rattle.account.proofs.Ordered.{ordered}
 use Rattle.account.proofs.Taken.{taken-is}
 
@@ -103,25 +104,25 @@ module _ (R : rule.Rule State Event ℕ) (a : Account) (x : RuleAccount) (lists 
         ∙ ap (λ (z : Verdict). accountOf (following z)) (sym v))
 
 -- what is known where a request is taken: its weighing is the rule's, and there is a place for it
-pub record Weighed (a : Account) (e : Event) (w : Weighing) : Type 0 where
+pub record Weighed (R : rule.Rule State Event ℕ) (a : Account) (e : Event) (w : Weighing) : Type 0 where
   pub lists : a ≡ accountOf (listsOf a)
-  pub decided : weighingOf w ≡ decideBehind panel (listsOf a .held) e (listsOf a .state) (listsOf a .progress)
+  pub decided : weighingOf w ≡ decideBehind R (listsOf a .held) e (listsOf a .state) (listsOf a .progress)
   pub free : isAccepted (w .verdict) ≡ true → a .progressing < places
   pub room : a .holding < places
 
-pub request-weighed : (a : Account) → length (a .progress) ≡ places → length (a .held) ≡ places → (t : ℕ) (g : Filed) (e : Event) → inOrderOf a ≡ true → refusal panel (listsOf a) (rule.request t g e) ≡ none
-    → (o : Outcomes) → Knows (a .state) (listsOf a .progress) o → (w : Weighing) → ((requests : List RuleSlot) → a .holding ≡ length requests → Decides requests e (a .progressing) o w)
-    → Weighed a e w
+pub request-weighed : (R : rule.Rule State Event ℕ) → Ranged R → (a : Account) → length (a .progress) ≡ places → length (a .held) ≡ places → (t : ℕ) (g : Filed) (e : Event) → inOrderBy R a ≡ true → refusal R (listsOf a) (rule.request t g e) ≡ none
+    → (o : Outcomes) → KnowsBy R (a .state) (listsOf a .progress) o → (w : Weighing) → ((requests : List RuleSlot) → a .holding ≡ length requests → DecidesBy R requests e (a .progressing) o w)
+    → Weighed R a e w
 unfolding listsOf
-request-weighed a many manyHeld t g e ok taken o known w decides =
-    let own = ordered panel (lit≤ tt) (lit≤ tt) a many manyHeld ok in
+request-weighed R ranged a many manyHeld t g e ok taken o known w decides =
+    let own = ordered R a ranged many manyHeld ok in
     let events = progress-row a (listsOf a) (own .lists) in
     let requests = held-row a (listsOf a) (own .lists) in
     let by = decides (listsOf a .held) (requests .count′) in
-    let places-left = free-request (some-of (named t) (listsOf a .progress)) (some-of (named t) (listsOf a .held)) (leb places (length (listsOf a .held))) taken .2 in
+    let places-left = free-request (some-of (named t) (listsOf a .progress)) (some-of (named t) (listsOf a .held)) (leb (R .heldLimit) (length (listsOf a .held))) taken .2 in
     record {
       lists = own .lists;
       decided = by .decided (a .state) (listsOf a .progress) known (known .guards ∙ own .guards) (sym (events .count′));
-      free = by .free;
-      room = omega (arith, requests .count′, leb-false places (length (listsOf a .held)) places-left);
+      free = λ v. omega (arith, by .free v, ranged .few);
+      room = omega (arith, requests .count′, leb-false (R .heldLimit) (length (listsOf a .held)) places-left, ranged .fewHeld);
     }

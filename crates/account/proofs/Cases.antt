@@ -6,7 +6,8 @@ use Rattle.rule.specs.Weigh.{weigh, decide}
 use Rattle.rule.specs.Step.{settle, asked, committing, aborting}
 use Rattle.rule.specs.Call.{call}
 use Rattle.events.specs.Events.{effectOf}
-use Rattle.account.specs.Cases.{table, CasesHold, BitsHold}
+use Rattle.account.specs.Cases.{table}
+use Rattle.account.specs.First.{CasesHold, BitsHold}
 
 pub cases : CasesHold
 unfolding outcomes weigh decide settle asked committing aborting call effectOf table

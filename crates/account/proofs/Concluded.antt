@@ -1,4 +1,4 @@
--- The clauses that judging asks, in its order, are those of an account in order; and the transactions noted differ exactly if those of the lists are apart.
+-- The clauses that judging asks, in its order, are those of an account in order; and the transactions noted differ exactly if those of the lists are apart. By any rule of the events.
 -- Assumes nothing.
 use Prim.Native.Nat.{ℕ, _+_, _≤_}
 use mathlib.Core.Path.{_≡_, refl, sym, ap, ap₂, _∙_}
@@ -22,9 +22,8 @@ use Rattle.account.specs.declared.Account.{Account}
 use Rattle.account.specs.Places.{used, listsOf}
 use Rattle.account.specs.InOrder.{inOrderBy}
 use Rattle.account.specs.declared.outcomes.Outcomes.{Outcomes}
-use Rattle.account.specs.First.{panel, inOrderOf}
-use Rattle.account.specs.inside.Known.{Knows}
-use Rattle.account.specs.inside.Judged.{allDiffer, Judges}
+use Rattle.account.specs.inside.Known.{KnowsBy}
+use Rattle.account.specs.inside.Judged.{allDiffer, JudgesBy}
 use Rattle.account.proofs.Clauses as ordered
 use Rattle.account.proofs.Sought.{lastNamed, only-found}
 use Rattle.account.proofs.Passed.{transactionIn, EventsPassed, RequestsPassed}
@@ -118,20 +117,23 @@ module _ (R : rule.Rule State Event ℕ) (a : Account) where
     judged-order : (all && guards && differ) ≡ inOrderBy R a
     judged-order = same-test (all && guards && differ) (inOrderBy R a) holds asked
 
-  -- counts beyond the places are not in order
-  beyond : R .progressLimit ≤ places → R .heldLimit ≤ places → (ltb places (a .progressing) || ltb places (a .holding)) ≡ true → inOrderBy R a ≡ true → ⊥
-  beyond most mostHeld h k =
+  -- counts beyond the limits are not in order
+  beyond : (ltb (R .progressLimit) (a .progressing) || ltb (R .heldLimit) (a .holding)) ≡ true → inOrderBy R a ≡ true → ⊥
+  beyond h k =
       let c = ordered.clauses R a k in
-      false≢true (sym (or-neither (ltb places (a .progressing)) (ltb places (a .holding)) (le-ltb places (a .progressing) (omega arith)) (le-ltb places (a .holding) (omega arith))) ∙ h)
+      false≢true
+      (sym
+      (or-neither (ltb (R .progressLimit) (a .progressing)) (ltb (R .heldLimit) (a .holding)) (le-ltb (R .progressLimit) (a .progressing) (c .progressing)) (le-ltb (R .heldLimit) (a .holding) (c .holding)))
+      ∙ h)
 
--- what is found of an account whose counts are beyond its places,
-module _ (a : Account) (t : ℕ) (outcomes : Outcomes) where
-  pub judges-beyond : (ltb places (a .progressing) || ltb places (a .holding)) ≡ true
-      → Judges a t (record { outcomes = outcomes; slot = blank; event = places; request = places; in_order = false })
+-- what is found of an account whose counts are beyond the limits,
+module _ (R : rule.Rule State Event ℕ) (a : Account) (t : ℕ) (outcomes : Outcomes) where
+  pub judges-beyond : (ltb (R .progressLimit) (a .progressing) || ltb (R .heldLimit) (a .holding)) ≡ true
+      → JudgesBy R a t (record { outcomes = outcomes; slot = blank; event = places; request = places; in_order = false })
   judges-beyond h =
-      let no = beyond panel a (omega arith) (omega arith) h in
+      let no = beyond R a h in
       record {
-        ordered = same-test false (inOrderOf a) (λ e. absurd (false≢true e)) (λ e. absurd (no e));
+        ordered = same-test false (inOrderBy R a) (λ e. absurd (false≢true e)) (λ e. absurd (no e));
         knows = λ e. absurd (no e);
         event = λ e. absurd (no e);
         request = λ e. absurd (no e);
@@ -139,27 +141,27 @@ module _ (a : Account) (t : ℕ) (outcomes : Outcomes) where
       }
 
 -- and of any other, past all its places
-pub record AllPassed (a : Account) (t : ℕ) (outcomes : Outcomes) (event request : ℕ) (found : Slot) (all differ : Bool) : Type 0 where
-  pub few : a .progressing ≤ places
-  pub fewHeld : a .holding ≤ places
+pub record AllPassed (R : rule.Rule State Event ℕ) (a : Account) (t : ℕ) (outcomes : Outcomes) (event request : ℕ) (found : Slot) (all differ : Bool) : Type 0 where
+  pub few : a .progressing ≤ R .progressLimit
+  pub fewHeld : a .holding ≤ R .heldLimit
   -- what was found of the events in progress, with the clauses so far and the transactions noted,
   pub foundEvent : Slot
   pub events : Bool
   pub listed : List ℕ
-  pub knows : Knows (a .state) (used (a .progress) (a .progressing)) outcomes
-  pub passed : EventsPassed panel a t event foundEvent events listed (a .progressing)
+  pub knows : KnowsBy R (a .state) (used (a .progress) (a .progressing)) outcomes
+  pub passed : EventsPassed R a t event foundEvent events listed (a .progressing)
   -- behind them,
   pub blanks : Bool
   pub blank : blanks ≡ (events && every isBlank (drop (a .progressing) (a .progress)))
   -- of the requests held,
   pub requests : Bool
   pub listedAll : List ℕ
-  pub passedHeld : RequestsPassed panel a t (outcomes .guarded) foundEvent blanks listed request found requests listedAll (a .holding)
+  pub passedHeld : RequestsPassed R a t (outcomes .guarded) foundEvent blanks listed request found requests listedAll (a .holding)
   -- and behind those
   pub blankHeld : all ≡ (requests && every isBlank (drop (a .holding) (a .held)))
   pub differs : differ ≡ allDiffer (take (a .progressing + a .holding) listedAll)
 
-module _ (a : Account) (t : ℕ) (outcomes : Outcomes) (event request : ℕ) (found : Slot) (all differ : Bool) (k : AllPassed a t outcomes event request found all differ) where
+module _ (R : rule.Rule State Event ℕ) (a : Account) (t : ℕ) (outcomes : Outcomes) (event request : ℕ) (found : Slot) (all differ : Bool) (k : AllPassed R a t outcomes event request found all differ) where
   abbrev xs : List Slot
   xs = take (a .progressing) (a .progress)
 
@@ -170,9 +172,9 @@ module _ (a : Account) (t : ℕ) (outcomes : Outcomes) (event request : ℕ) (fo
   all-apart =
       k .differs ∙ ap allDiffer (k .passedHeld .listed .noted ∙ ap (λ (l : List ℕ). l ++ map transactionIn ys) (k .passed .listed .noted)) ∙ lists-apart xs ys
 
-  ordered-as : (all && outcomes .guarded && differ) ≡ inOrderOf a
+  ordered-as : (all && outcomes .guarded && differ) ≡ inOrderBy R a
   ordered-as =
-      judged-order panel a (k .events) (k .blanks) (k .requests) all (outcomes .guarded) differ
+      judged-order R a (k .events) (k .blanks) (k .requests) all (outcomes .guarded) differ
       (record {
         few = k .few;
         fewHeld = k .fewHeld;
@@ -184,17 +186,17 @@ module _ (a : Account) (t : ℕ) (outcomes : Outcomes) (event request : ℕ) (fo
         ofTransactions = all-apart;
       })
 
-  only-one : inOrderOf a ≡ true → (some-of (named t) (map slotOf xs) || some-of (named t) (map slotOf ys)) ≡ true
+  only-one : inOrderBy R a ≡ true → (some-of (named t) (map slotOf xs) || some-of (named t) (map slotOf ys)) ≡ true
       → keep (named t) (map slotOf xs) ++ keep (named t) (map slotOf ys) ≡ slotOf found ∷ []
   unfolding listsOf
   only-one h q =
       let both = map-append slotOf xs ys in
-      let apart = ap rule-order.apart both ∙ ordered.rule-clauses panel a h .transactions in
+      let apart = ap rule-order.apart both ∙ ordered.rule-clauses R a h .transactions in
       let stands = ap (some-of (named t)) both ∙ some-append (named t) (map slotOf xs) (map slotOf ys) ∙ q in
       let last = k .passedHeld .sought .last ∙ ap (λ (x : Slot). lastNamed t x ys) (k .passed .sought .last) in
       sym (keep-append (named t) (map slotOf xs) (map slotOf ys)) ∙ ap (keep (named t)) (sym both) ∙ only-found t xs ys found last apart stands
 
-  pub judges-all : Judges a t (record { outcomes = outcomes; slot = found; event = event; request = request; in_order = all && outcomes .guarded && differ })
+  pub judges-all : JudgesBy R a t (record { outcomes = outcomes; slot = found; event = event; request = request; in_order = all && outcomes .guarded && differ })
   unfolding listsOf
   judges-all =
       record {

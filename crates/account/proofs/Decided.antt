@@ -1,4 +1,4 @@
--- The decision by what is known of the outcomes is the rule's, where each event in progress finds its guard; with no free place it is to hold.
+-- The decision by what is known of the outcomes is the rule's, where each event in progress finds its guard; with no free place it is to hold. Of any rule that a range answers for.
 -- Assumes nothing.
 use Prim.Native.Nat.{ℕ, _≤_, _<_}
 use mathlib.Core.Path.{_≡_, refl, ap, _∙_}
@@ -12,6 +12,7 @@ use Rattle.rule.specs.Outcome.{outcomes}
 use Rattle.rule.specs.Weigh.{weigh, decide}
 use Rattle.rule.specs.InOrder.{staysHeld}
 use Rattle.events.specs.declared.Event.{Event}
+use Rattle.events.specs.declared.State.{State}
 use Rattle.events.specs.Range.{rangeOf, everyIn, someIn}
 use Rattle.events.proofs.Answers.{outcomes-every, outcomes-some}
 use Rattle.filing.specs.declared.Verdict.{Verdict}
@@ -20,8 +21,8 @@ use Rattle.filing.specs.declared.Weighing.{Weighing}
 use Rattle.filing.specs.Slots.{RuleSlot}
 use Rattle.filing.specs.Entries.{isHeld, verdictOf}
 use Rattle.account.specs.declared.outcomes.Outcomes.{Outcomes}
-use Rattle.account.specs.First.{progressLimit, heldLimit, panel}
-use Rattle.account.specs.inside.Known.{Decides, StaysHeld, verdictBy}
+use Rattle.account.specs.inside.Known.{DecidesBy, StaysHeldBy, verdictBy}
+use Rattle.account.proofs.Ranged.{Ranged}
 
 by-tests : (a b : Bool) → verdictOf (verdictBy a b) ≡ cond a rule.accept (cond b rule.hold rule.reject)
 by-tests true b = refl
@@ -31,45 +32,45 @@ by-tests false false = refl
 abbrev unweighed : Weighing
 unweighed = record { verdict = Held; weighed = 0 }
 
-module _ (e : Event) (n : ℕ) (o : Outcomes) where
+held-same : (v : Verdict) → isHeld v ≡ staysHeld (verdictOf v)
+held-same Accepted = refl
+held-same Rejected = refl
+held-same Held = refl
+
+module _ (R : rule.Rule State Event ℕ) (e : Event) (n : ℕ) (o : Outcomes) where
   -- no place is free in progress
-  pub decided-full : progressLimit ≤ n → Decides [] e n o unweighed
+  pub decided-full : R .progressLimit ≤ n → DecidesBy R [] e n o unweighed
   unfolding decide
-  decided-full h = record { free = λ v. absurd (false≢true v); decided = λ s xs k g q. rw (q, le-leb progressLimit n h) }
+  decided-full h = record { free = λ v. absurd (false≢true v); decided = λ s xs k g q. rw (q, le-leb (R .progressLimit) n h) }
 
   -- else what is known of the outcomes decides
-  pub decided-known : n < progressLimit → Decides [] e n o (record { verdict = verdictBy (everyIn e (o .range)) (someIn e (o .range)); weighed = o .number })
+  pub decided-known : Ranged R → n < R .progressLimit → DecidesBy R [] e n o (record { verdict = verdictBy (everyIn e (o .range)) (someIn e (o .range)); weighed = o .number })
   unfolding decide weigh
-  decided-known h =
+  decided-known ranged h =
       record {
         free = λ v. h;
         decided = λ s xs k g q.
-            let range : o .range ≡ rangeOf (outcomes panel xs s) = k .range g in
+            let range : o .range ≡ rangeOf (outcomes R xs s) = k .range g in
             rw (
               q,
-              lt-leb progressLimit n h,
+              lt-leb (R .progressLimit) n h,
               by-tests (everyIn e (o .range)) (someIn e (o .range)),
               range,
-              outcomes-every progressLimit heldLimit s xs e,
-              outcomes-some progressLimit heldLimit s xs e,
+              outcomes-every R (ranged .tells) s xs e,
+              outcomes-some R (ranged .tells) s xs e,
               k .number,
             );
       }
 
   -- behind requests held, nothing is weighed; behind none, the decision is that with nothing held
-  pub decided-behind : (requests : List RuleSlot) → 0 < length requests → Decides requests e n o unweighed
+  pub decided-behind : (requests : List RuleSlot) → 0 < length requests → DecidesBy R requests e n o unweighed
   decided-behind [] h = absurd (omega arith)
   decided-behind (x ∷ requests) h = record { free = λ v. absurd (false≢true v); decided = λ s xs k g q. refl }
 
-  pub decided-first : (requests : List RuleSlot) (w : Weighing) → length requests ≡ 0 → Decides [] e n o w → Decides requests e n o w
+  pub decided-first : (requests : List RuleSlot) (w : Weighing) → length requests ≡ 0 → DecidesBy R [] e n o w → DecidesBy R requests e n o w
   decided-first [] w h d = d
   decided-first (x ∷ requests) w h d = absurd (omega arith)
 
   -- whether it is held is then what the rule decides
-  held-same : (v : Verdict) → isHeld v ≡ staysHeld (verdictOf v)
-  held-same Accepted = refl
-  held-same Rejected = refl
-  held-same Held = refl
-
-  pub decided-stays : (w : Weighing) → Decides [] e n o w → StaysHeld e n o (isHeld (w .verdict))
+  pub decided-stays : (w : Weighing) → DecidesBy R [] e n o w → StaysHeldBy R e n o (isHeld (w .verdict))
   decided-stays w d = λ s xs k g q. held-same (w .verdict) ∙ ap (λ (v : rule.Weighing). staysHeld (v .verdict)) (d .decided s xs k g q)

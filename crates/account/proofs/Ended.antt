@@ -1,4 +1,4 @@
--- A commit and an abort that are taken, in places: the event that was found is the transaction's, and what is left of an account without a transaction is the account of what is left of its lists.
+-- A commit and an abort that are taken, in places: the event that was found is the transaction's, and what is left of an account without a transaction is the account of what is left of its lists. By any rule of the events.
 -- Assumes nothing.
 use Prim.Native.Nat.{ℕ, _≤_, _<_}
 use mathlib.Core.Path.{_≡_, refl, sym, ap, _∙_}
@@ -7,7 +7,6 @@ use mathlib.Core.List.{List, [], _∷_, _++_, map}
 use mathlib.Core.Logic.{_⊎_, inl, inr}
 use mathlib.Core.Option.{none}
 use native.Mathlib.Omega.{arith}
-use lib.Dec.{lit≤}
 use lib.ListN.{length, getD}
 use lib.Seq.{set-out}
 use borrow.Author.Tests.{ltb-true}
@@ -19,6 +18,8 @@ use Rattle.rule.specs.InOrder.{withoutDecision}
 use Rattle.rule.proofs.Lists.{and-left, and-right, and-both}
 use Rattle.rule.proofs.Apart.{length-keep, apart-left}
 use Rattle.rule.proofs.Taken.{free-commit, free-abort}
+use Rattle.events.specs.declared.Event.{Event}
+use Rattle.events.specs.declared.State.{State}
 use Rattle.filing.specs.declared.Filed.{Filed}
 use Rattle.filing.specs.declared.Slot.{Slot}
 use Rattle.filing.specs.declared.Entry.{Entry}
@@ -28,9 +29,8 @@ use Rattle.filing.proofs.Filled.{length-filled}
 use Rattle.account.specs.declared.Account.{Account}
 use Rattle.account.specs.declared.Stepped.{Stepped}
 use Rattle.account.specs.Places.{RuleAccount, used, listsOf, accountOf}
-use Rattle.account.specs.First.{panel}
 use Rattle.account.specs.inside.Judged.{FoundAt}
-use Rattle.account.specs.inside.Taken.{takenAs, listed, markedAt, WithoutEvent, WithoutRequest, Settles}
+use Rattle.account.specs.inside.Taken.{takenAs, listed, markedAt, WithoutEvent, WithoutRequest, SettlesBy}
 use Rattle.account.proofs.Padded.{progress-row, held-row}
 use Rattle.account.proofs.Ordered.{Ordered, marked-guarded, without-guarded}
 use Rattle.account.proofs.Marked.{marked-used}
@@ -49,10 +49,10 @@ either-true false true h = refl
 either-true false false (inl h) = h
 either-true false false (inr h) = h
 
-module _ (a : Account) (many : length (a .progress) ≡ places) (own : Ordered panel (lit≤ tt) (lit≤ tt) a) (t : ℕ) (g : Filed) where
+module _ (R : rule.Rule State Event ℕ) (a : Account) (many : length (a .progress) ≡ places) (own : Ordered R a) (t : ℕ) (g : Filed) where
   -- a commit, with the place that was found
-  pub commit-settled : refusal panel (listsOf a) (rule.commit t g) ≡ none → (at : ℕ) → FoundAt t (a .progress) (a .progressing) at
-      → (first : Entry) → first ≡ entryOf (rule.noted t g) → (r : Stepped) → Settles a at first r → r ≡ takenAs (committing panel (listsOf a) t g)
+  pub commit-settled : refusal R (listsOf a) (rule.commit t g) ≡ none → (at : ℕ) → FoundAt t (a .progress) (a .progressing) at
+      → (first : Entry) → first ≡ entryOf (rule.noted t g) → (r : Stepped) → SettlesBy R a at first r → r ≡ takenAs (committing R (listsOf a) t g)
   unfolding committing listsOf
   commit-settled taken at found first is r settles =
       let p = some-of (named t) (listsOf a .progress) in
@@ -61,7 +61,7 @@ module _ (a : Account) (many : length (a .progress) ≡ places) (own : Ordered p
       let within : at < places = ltb-true at places (found .tells ∙ stands) in
       let far = apart-left (listsOf a .progress) (listsOf a .held) (own .transactions) in
       let marks = marked-used t (a .progress) (a .progressing) at (found .there within) (omega (arith, own .progressing)) (found .is within) far in
-      settles (listsOf a) _ (rule.noted t g) (own .lists) (own .decisions) (found .there) marks is (marked-guarded panel (a .state) (listsOf a .progress) (own .guards) t)
+      settles (listsOf a) _ (rule.noted t g) (own .lists) (own .decisions) (found .there) marks is (marked-guarded R (a .state) (listsOf a .progress) (own .guards) t)
 
   -- what an abort leaves
   abbrev pub leftOf : RuleAccount
@@ -97,15 +97,15 @@ module _ (a : Account) (many : length (a .progress) ≡ places) (own : Ordered p
           ap (λ (l : List Slot). used l (rest .progressing)) (set-out (rest .progress) places (committedSlot (getD (rest .progress) places blank)) (omega (arith, size))) ∙ events .list
 
       -- an abort, with the slot that was found
-      pub abort-settled : refusal panel (listsOf a) (rule.abort t g) ≡ none → (found : Slot)
+      pub abort-settled : refusal R (listsOf a) (rule.abort t g) ≡ none → (found : Slot)
           → ((some-of (named t) (listsOf a .progress) || some-of (named t) (listsOf a .held)) ≡ true → keep (named t) (listsOf a .progress) ++ keep (named t) (listsOf a .held) ≡ slotOf found ∷ [])
-          → (first : Entry) → first ≡ entryOf (dropping (slotOf found)) → (r : Stepped) → Settles rest places first r → r ≡ takenAs (aborting panel (listsOf a) t)
+          → (first : Entry) → first ≡ entryOf (dropping (slotOf found)) → (r : Stepped) → SettlesBy R rest places first r → r ≡ takenAs (aborting R (listsOf a) t)
       unfolding aborting
       abort-settled taken found slot first is r settles =
           let p = some-of (named t) (listsOf a .progress) in
           let h = some-of (named t) (listsOf a .held) in
           let free = free-abort p h (some-of (namedCommitted t) (listsOf a .progress)) taken in
-          let guards = without-guarded panel (listsOf a .state) (listsOf a .progress) (own .guards) t (free .1) in
+          let guards = without-guarded R (listsOf a .state) (listsOf a .progress) (own .guards) t (free .1) in
           let decisions = every-keep withoutDecision (λ (x : RuleSlot). not (named t x)) (listsOf a .held) (own .decisions) in
           settles leftOf _ (dropping (slotOf found)) rest-is decisions (λ l. absurd (omega arith)) unmarked is guards
-          ∙ ap (λ (xs : List RuleSlot). takenAs (after (map dropping xs) (settle panel (listsOf a .state) (without t (listsOf a .progress)) (without t (listsOf a .held))))) (sym (slot (either-true p h (free .0))))
+          ∙ ap (λ (xs : List RuleSlot). takenAs (after (map dropping xs) (settle R (listsOf a .state) (without t (listsOf a .progress)) (without t (listsOf a .held))))) (sym (slot (either-true p h (free .0))))

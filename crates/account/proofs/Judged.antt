@@ -1,5 +1,5 @@
 -- The refusals by what judging found are the rule's, with 5 in front: of an account in order, the slot that was found is the only one of its transaction, and it is committed
--- exactly if one of that transaction is in progress and committed.
+-- exactly if one of that transaction is in progress and committed. By any rule of the events.
 -- Assumes nothing.
 use Prim.Native.Nat.{ℕ, _≤_}
 use mathlib.Core.Path.{_≡_, refl, sym, ap, ap₂, _∙_}
@@ -15,6 +15,7 @@ use Rattle.rule.specs.Step.{named}
 use Rattle.rule.specs.Call as rule-call
 use Rattle.rule.proofs.Lists.{some-append, keep-append}
 use Rattle.events.specs.declared.Event.{Event}
+use Rattle.events.specs.declared.State.{State}
 use Rattle.filing.specs.declared.Decision.{Decision}
 use Rattle.filing.specs.declared.Decision.the-variants.{Undecided, Committed}
 use Rattle.filing.specs.declared.Filed.{Filed}
@@ -26,21 +27,22 @@ use Rattle.account.specs.declared.Answer.the-variants as Answer′
 use Rattle.account.specs.declared.judging.Judged.{Judged}
 use Rattle.account.specs.declared.refusing.Asked.{Asked}
 use Rattle.account.specs.Places.{listsOf}
+use Rattle.account.specs.InOrder.{inOrderBy}
 use Rattle.account.specs.Steps.{refusalIn}
-use Rattle.account.specs.First.{panel, heldLimit, inOrderOf}
-use Rattle.account.specs.inside.Judged.{Judges, requestAnswer, commitAnswer, abortAnswer, askedAnswer, answerBy, messageAsks, messageNames}
+use Rattle.account.specs.inside.Judged.{JudgesBy, requestAnswer, commitAnswer, abortAnswer, askedAnswer, answerBy, messageAsks, messageNames}
 use Rattle.account.proofs.Places.{count-used}
 use Rattle.account.proofs.Clauses.{rule-clauses}
 
--- the answer to what is asked, of an account in order or not
-pub answer-asked : (j : Judged) (asked x : Asked) (holding : ℕ) (r : Answer) → j .in_order ≡ true → asked ≡ x → r ≡ askedAnswer j x holding → r ≡ answerBy j asked holding
-unfolding answerBy
-answer-asked j asked x holding r h q e =
-    e ∙ ap (λ (y : Asked). askedAnswer j y holding) (sym q) ∙ ap (λ (b : Bool). cond b (askedAnswer j asked holding) (Answer′.Refused 5)) (sym h)
+module _ (R : rule.Rule State Event ℕ) where
+  -- the answer to what is asked, of an account in order or not
+  pub answer-asked : (j : Judged) (asked x : Asked) (holding : ℕ) (r : Answer) → j .in_order ≡ true → asked ≡ x → r ≡ askedAnswer R j x holding → r ≡ answerBy R j asked holding
+  unfolding answerBy
+  answer-asked j asked x holding r h q e =
+      e ∙ ap (λ (y : Asked). askedAnswer R j y holding) (sym q) ∙ ap (λ (b : Bool). cond b (askedAnswer R j asked holding) (Answer′.Refused 5)) (sym h)
 
-pub answer-disorder : (j : Judged) (asked : Asked) (holding : ℕ) → j .in_order ≡ false → Answer′.Refused 5 ≡ answerBy j asked holding
-unfolding answerBy
-answer-disorder j asked holding h = ap (λ (b : Bool). cond b (askedAnswer j asked holding) (Answer′.Refused 5)) (sym h)
+  pub answer-disorder : (j : Judged) (asked : Asked) (holding : ℕ) → j .in_order ≡ false → Answer′.Refused 5 ≡ answerBy R j asked holding
+  unfolding answerBy
+  answer-disorder j asked holding h = ap (λ (b : Bool). cond b (askedAnswer R j asked holding) (Answer′.Refused 5)) (sym h)
 
 -- the answers as numbers
 request-number : (named full : Bool) → refusalIn (requestAnswer named full) ≡ cond named (some 6) (cond full (some 7) none)
@@ -114,8 +116,8 @@ committed-found t progress held x h k =
     ∙ some-append (rule-call.namedCommitted t) progress held
     ∙ or-none (some-of (rule-call.namedCommitted t) progress) (some-of (rule-call.namedCommitted t) held) (none-committed t held h)
 
-module _ (a : Account) (j : Judged) (room : a .holding ≤ length (a .held)) where
-  module _ (t : ℕ) (k : Judges a t j) (h : inOrderOf a ≡ true) where
+module _ (R : rule.Rule State Event ℕ) (a : Account) (j : Judged) (room : a .holding ≤ length (a .held)) where
+  module _ (t : ℕ) (k : JudgesBy R a t j) (h : inOrderBy R a ≡ true) where
     abbrev isThere : Bool
     isThere = some-of (named t) (listsOf a .progress) || some-of (named t) (listsOf a .held)
 
@@ -127,17 +129,17 @@ module _ (a : Account) (j : Judged) (room : a .holding ≤ length (a .held)) whe
     unfolding listsOf
     there = ap₂ (λ (x y : Bool). x || y) (k .event h .tells) waits
 
-    full : leb heldLimit (a .holding) ≡ leb heldLimit (length (listsOf a .held))
+    full : leb (R .heldLimit) (a .holding) ≡ leb (R .heldLimit) (length (listsOf a .held))
     unfolding listsOf
-    full = ap (leb heldLimit) (sym (count-used (a .held) (a .holding) room))
+    full = ap (leb (R .heldLimit)) (sym (count-used (a .held) (a .holding) room))
 
     committed : isThere ≡ true → not (isUndecided (j .slot .decision)) ≡ some-of (rule-call.namedCommitted t) (listsOf a .progress)
-    committed q = committed-found t (listsOf a .progress) (listsOf a .held) (j .slot) (rule-clauses panel a h .decisions) (k .slot h q)
+    committed q = committed-found t (listsOf a .progress) (listsOf a .held) (j .slot) (rule-clauses R a h .decisions) (k .slot h q)
 
-  asked-refusal : (m : rule.Message Filed Event) → Judges a (messageNames m) j → inOrderOf a ≡ true
-      → refusalIn (askedAnswer j (messageAsks m) (a .holding)) ≡ rule-call.refusal panel (listsOf a) m
+  asked-refusal : (m : rule.Message Filed Event) → JudgesBy R a (messageNames m) j → inOrderBy R a ≡ true
+      → refusalIn (askedAnswer R j (messageAsks m) (a .holding)) ≡ rule-call.refusal R (listsOf a) m
   asked-refusal (rule.request t g e) k h =
-      request-number (ltb (j .event) places || ltb (j .request) places) (leb heldLimit (a .holding))
+      request-number (ltb (j .event) places || ltb (j .request) places) (leb (R .heldLimit) (a .holding))
       ∙ ap₂ (λ (x y : Bool). cond x (some 6) (cond y (some 7) none)) (there t k h) (full t k h)
   asked-refusal (rule.commit t g) k h =
       let c = not (isUndecided (j .slot .decision)) in
@@ -152,14 +154,14 @@ module _ (a : Account) (j : Judged) (room : a .holding ≤ length (a .held)) whe
       ∙ asked-behind (isThere t k h) (some 8) (λ q. ap (λ (x : Bool). cond x (some 11) none) (committed t k h q))
 
   -- the answer by what was found: 5 where the account is not in order, else the rule's refusal
-  pub judged-refusal : (m : rule.Message Filed Event) → Judges a (messageNames m) j
-      → refusalIn (answerBy j (messageAsks m) (a .holding)) ≡ cond (inOrderOf a) (rule-call.refusal panel (listsOf a) m) (some 5)
+  pub judged-refusal : (m : rule.Message Filed Event) → JudgesBy R a (messageNames m) j
+      → refusalIn (answerBy R j (messageAsks m) (a .holding)) ≡ cond (inOrderBy R a) (rule-call.refusal R (listsOf a) m) (some 5)
   unfolding answerBy
   judged-refusal m k =
-      let first = askedAnswer j (messageAsks m) (a .holding) in
-      ap (λ (b : Bool). refusalIn (cond b first (Answer′.Refused 5))) (k .ordered) ∙ go (inOrderOf a) refl
+      let first = askedAnswer R j (messageAsks m) (a .holding) in
+      ap (λ (b : Bool). refusalIn (cond b first (Answer′.Refused 5))) (k .ordered) ∙ go (inOrderBy R a) refl
     where
-      go : (b : Bool) → inOrderOf a ≡ b
-          → refusalIn (cond b (askedAnswer j (messageAsks m) (a .holding)) (Answer′.Refused 5)) ≡ cond b (rule-call.refusal panel (listsOf a) m) (some 5)
+      go : (b : Bool) → inOrderBy R a ≡ b
+          → refusalIn (cond b (askedAnswer R j (messageAsks m) (a .holding)) (Answer′.Refused 5)) ≡ cond b (rule-call.refusal R (listsOf a) m) (some 5)
       go true h = asked-refusal m k h
       go false h = refl

@@ -1,6 +1,7 @@
 pub mod Places
 pub mod Clauses
 pub mod Judged
+pub mod Ranged
 pub mod Known
 pub mod Decided
 pub mod Padded

@@ -23,6 +23,7 @@ use Rattle.account.specs.Places.{used, padded, listsOf, accountOf}
 use Rattle.account.specs.InOrder.{inOrderBy}
 use Rattle.account.proofs.Places.{count-used}
 use Rattle.account.proofs.Clauses.{clauses, rule-clauses}
+use Rattle.account.proofs.Ranged.{Ranged}
 
 blank-places : (xs : List Slot) → every isBlank xs ≡ true → xs ≡ replicate (length xs) blank
 blank-places [] h = refl
@@ -39,7 +40,7 @@ padded-row row count many few blanks =
     (sym (places-slots (take count row)))
     (blank-places (drop count row) blanks ∙ ap (λ (k : ℕ). replicate k blank) (left ∙ ap (λ (k : ℕ). places - k) (sym number)))
 
-module _ (R : Rule State Event ℕ) (few : R .progressLimit ≤ places) (fewHeld : R .heldLimit ≤ places) (a : Account) where
+module _ (R : Rule State Event ℕ) (a : Account) where
   pub record Ordered : Type 0 where
     pub progressing : a .progressing ≤ places
     pub holding : a .holding ≤ places
@@ -48,13 +49,13 @@ module _ (R : Rule State Event ℕ) (few : R .progressLimit ≤ places) (fewHeld
     pub decisions : every withoutDecision (listsOf a .held) ≡ true
     pub guards : guarded R (listsOf a .state) [] (listsOf a .progress) ≡ true
 
-  pub ordered : length (a .progress) ≡ places → length (a .held) ≡ places → inOrderBy R a ≡ true → Ordered
+  pub ordered : Ranged R → length (a .progress) ≡ places → length (a .held) ≡ places → inOrderBy R a ≡ true → Ordered
   unfolding accountOf listsOf
-  ordered many manyHeld h =
+  ordered ranged many manyHeld h =
       let own = clauses R a h in
       let rule-own = rule-clauses R a h in
-      let p : a .progressing ≤ places = omega (arith, own .progressing) in
-      let q : a .holding ≤ places = omega (arith, own .holding) in
+      let p : a .progressing ≤ places = omega (arith, own .progressing, ranged .few) in
+      let q : a .holding ≤ places = omega (arith, own .holding, ranged .fewHeld) in
       record {
         progressing = p;
         holding = q;

@@ -1,12 +1,11 @@
--- What the steps of an account promise: by cases on the account's order and on the rule's refusal; a test of the rule's slots is one of the places' own fields.
+-- What the steps of an account promise: by cases on the account's order and on the rule's refusal; a test of the rule's slots is one of the places' own fields. By any rule of the events.
 -- Assumes nothing.
 use Prim.Native.Nat.{ℕ}
 use mathlib.Core.Path.{_≡_, refl, sym, _∙_, ap, fun-ext}
 use mathlib.Core.Bool.{Bool, true, false, cond, _&&_, not}
 use mathlib.Core.List.{List, map}
 use mathlib.Core.Option.{Option, none, some}
-use native.Mathlib.Omega.{arith}
-use lib.Dec.{eqb, lit≤}
+use lib.Dec.{eqb}
 use lib.ListN.{take, length-map}
 use Rattle.rule.specs.Lists.{some-of}
 use Rattle.rule.specs.Rule as rule
@@ -30,9 +29,9 @@ use Rattle.account.specs.declared.Answer.the-variants as Answer′
 use Rattle.account.specs.Places.{listsOf}
 use Rattle.account.specs.InOrder.{inOrderBy}
 use Rattle.account.specs.Steps.{refusalIn, refusedBy, stepBy}
-use Rattle.account.specs.First.{panel, inOrderOf}
 use Rattle.account.specs.inside.Taken.{takenAs}
-use Rattle.account.specs.Promises.{isCommitted, stands, standsCommitted, stepTests, StepPromise}
+use Rattle.account.specs.Promises.{isCommitted, stands, standsCommitted, stepTestsBy, StepPromiseBy}
+use Rattle.account.proofs.Ranged.{Ranged}
 use Rattle.account.proofs.Padded.{lists-account}
 use Rattle.account.proofs.Refused.{by, refusal-same}
 use Rattle.account.proofs.Answers.{answers-apart}
@@ -91,13 +90,14 @@ module _ (t : ℕ) (row : List Slot) (count : ℕ) where
   stands-committed = some-map (rule-call.namedCommitted t) slotOf (take count row) ∙ ap (λ (p : Slot → Bool). some-of p (take count row)) (fun-ext committed-test)
 
 -- so the rule's refusals are the tests behind the first
-first-test : (a : Account) (m : rule.Message Filed Event) → cond (not (inOrderOf a)) (some 5) (rule-call.refusal panel (listsOf a) m) ≡ firstOf (stepTests a m)
+first-test : (R : rule.Rule State Event ℕ) (a : Account) (m : rule.Message Filed Event)
+    → cond (not (inOrderBy R a)) (some 5) (rule-call.refusal R (listsOf a) m) ≡ firstOf (stepTestsBy R a m)
 unfolding listsOf
-first-test a (rule.request t g e) =
+first-test R a (rule.request t g e) =
     rw (stands-named t (a .progress) (a .progressing), stands-named t (a .held) (a .holding), length-map (take (a .holding) (a .held)) slotOf)
-first-test a (rule.commit t g) =
+first-test R a (rule.commit t g) =
     rw (stands-named t (a .progress) (a .progressing), stands-named t (a .held) (a .holding), stands-committed t (a .progress) (a .progressing))
-first-test a (rule.abort t g) =
+first-test R a (rule.abort t g) =
     rw (stands-named t (a .progress) (a .progressing), stands-named t (a .held) (a .holding), stands-committed t (a .progress) (a .progressing))
 
 -- the entries of a list are the first of the places
@@ -105,15 +105,15 @@ entries-list : (xs : List RuleEntry) → take (entriesOf xs .count) (entriesOf x
 unfolding entriesOf
 entries-list xs = first-filled entryOf blankEntry most xs
 
-pub step-promise : StepPromise
+pub step-promise : (R : rule.Rule State Event ℕ) → Ranged R → StepPromiseBy R
 unfolding entriesOf takenAs
-step-promise a m =
-    let called = rule-call.call panel (listsOf a) m in
+step-promise R ranged a m =
+    let called = rule-call.call R (listsOf a) m in
     record {
-      refusal = step-answer panel a m ∙ first-test a m;
-      unchanged = λ n h. ap (λ (c : Stepped). c .account) (step-same panel a m n h);
-      silent = λ n h. ap (λ (c : Stepped). c .entries) (step-same panel a m n h);
-      lists = λ h. ap (λ (c : Stepped). listsOf (c .account)) (step-taken panel a m h) ∙ lists-account (called .account);
-      entries = λ h. ap (λ (c : Stepped). take (c .entries .count) (c .entries .at)) (step-taken panel a m h) ∙ entries-list (rule-call.written (called .answer));
-      few = step-few panel (lit≤ tt) (lit≤ tt) a m;
+      refusal = step-answer R a m ∙ first-test R a m;
+      unchanged = λ n h. ap (λ (c : Stepped). c .account) (step-same R a m n h);
+      silent = λ n h. ap (λ (c : Stepped). c .entries) (step-same R a m n h);
+      lists = λ h. ap (λ (c : Stepped). listsOf (c .account)) (step-taken R a m h) ∙ lists-account (called .account);
+      entries = λ h. ap (λ (c : Stepped). take (c .entries .count) (c .entries .at)) (step-taken R a m h) ∙ entries-list (rule-call.written (called .answer));
+      few = step-few R (ranged .few) (ranged .fewHeld) a m;
     }

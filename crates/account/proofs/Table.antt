@@ -1,28 +1,28 @@
--- The panel's table is that of the events; outcomes are the table's since the events of an account in order are safe.
+-- On an account in order the outcomes are the table's, since its events are safe. By any rule of the events whose effects are the table's where the guard holds.
 -- Assumes nothing.
-use mathlib.Core.Path.{_≡_, refl, sym, _∙_}
+use Prim.Native.Nat.{ℕ}
+use mathlib.Core.Path.{_≡_, sym, _∙_}
 use mathlib.Core.Bool.{true}
 use mathlib.Core.List.{[]}
+use Rattle.rule.specs.Rule.{Rule}
 use Rattle.rule.specs.InOrder.{guarded}
 use Rattle.rule.proofs.Exact.{numbered}
-use Rattle.rule.proofs.Safe.{Safe, guarded-safe}
-use Rattle.events.proofs.Table as events
-use Rattle.events.proofs.Panel.{outcome-table}
+use Rattle.rule.proofs.Safe.{Safe, guarded-safe, outcome-agree}
+use Rattle.events.specs.declared.Event.{Event}
+use Rattle.events.specs.declared.State.{State}
 use Rattle.account.specs.declared.Account.{Account}
 use Rattle.account.specs.Places.{listsOf}
-use Rattle.account.specs.First.{progressLimit, heldLimit, panel, tablePanel, inOrderOf}
-use Rattle.account.specs.Table.{TableHolds, OutcomesOfTheTable}
+use Rattle.account.specs.InOrder.{inOrderBy}
+use Rattle.account.specs.Table.{OutcomesOfTheTableBy}
 use Rattle.account.proofs.Clauses.{rule-clauses}
 
-pub table-holds : TableHolds
-table-holds s a = record { panel′ = refl; tablePanel′ = refl; rows = events.table-holds 8 8 s a }
+module _ (R T : Rule State Event ℕ) (same : (e : Event) (s : State) → R .guard e s ≡ true → T .effect e s ≡ R .effect e s) where
+  guards : (a : Account) → inOrderBy R a ≡ true → guarded R (a .state) [] (listsOf a .progress) ≡ true
+  unfolding listsOf
+  guards a h = rule-clauses R a h .guards
 
-guards : (a : Account) → inOrderOf a ≡ true → guarded panel (a .state) [] (listsOf a .progress) ≡ true
-unfolding listsOf
-guards a h = rule-clauses panel a h .guards
-
-pub outcomes-of-the-table : OutcomesOfTheTable
-outcomes-of-the-table a h n =
-    let safe : Safe panel (listsOf a .progress) (a .state) = guarded-safe panel (a .state) _ (listsOf a .progress) tt (guards a h) in
-    let same = sym (outcome-table progressLimit heldLimit (listsOf a .progress) n (a .state) safe) in
-    (same, same ∙ numbered tablePanel (listsOf a .progress) (a .state) .bits n)
+  pub outcomes-of-the-table : OutcomesOfTheTableBy R T
+  outcomes-of-the-table a h n =
+      let safe : Safe R (listsOf a .progress) (a .state) = guarded-safe R (a .state) _ (listsOf a .progress) tt (guards a h) in
+      let agree = sym (outcome-agree R T same (listsOf a .progress) n (a .state) safe) in
+      (agree, agree ∙ numbered T (listsOf a .progress) (a .state) .bits n)

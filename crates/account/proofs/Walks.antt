@@ -28,7 +28,7 @@ use Rattle.account.specs.declared.question.Reached.{Reached}
 use Rattle.account.specs.Places.{used, listsOf}
 use Rattle.account.specs.InOrder.{inOrderBy}
 use Rattle.account.specs.Steps.{outlookBy}
-use Rattle.account.specs.inside.Reached.{reached, followed, reachedPast}
+use Rattle.account.specs.inside.Reached.{reached, followedBy, reachedPast}
 use Rattle.account.proofs.Slices.{usedFrom, used-end, used-next}
 
 half : (n u : ℕ) → n / 2 / 2 ^ u ≡ n / 2 ^ suc u
@@ -53,8 +53,8 @@ module _ (R : rule.Rule State Event ℕ) (r : Reached) (t : ℕ) (g : Filed) (e 
 module _ (R : rule.Rule State Event ℕ) (r : Reached) (count : ℕ) (row : List Slot) (at : ℕ) where
   -- one event further on the way
   pub reached-next : at < count → count ≤ length row
-      → reachedPast R (usedFrom (at + 1) count row) (followed R r (getD row at blank) .left) (followed R r (getD row at blank) .state) ≡ reachedPast R (usedFrom at count row) (r .left) (r .state)
-  unfolding followed
+      → reachedPast R (usedFrom (at + 1) count row) (followedBy R r (getD row at blank) .left) (followedBy R r (getD row at blank) .state) ≡ reachedPast R (usedFrom at count row) (r .left) (r .state)
+  unfolding followedBy
   reached-next h k =
       let x = getD row at blank in
       step R r (x .transaction) (x .filed) (x .event) (usedFrom (at + 1) count row) (x .decision)

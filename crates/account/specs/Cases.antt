@@ -1,11 +1,11 @@
--- The cases close to the line (docs/REGISTER.md, 14.1 to 14.9 and the outcomes below them), and rows for what no case has: one table, one statement.
+-- The cases close to the line (docs/REGISTER.md, 14.1 to 14.9 and the outcomes below them), and rows for what no case has: one table, one statement of a rule.
 -- Assumes nothing.
 use Prim.Native.Nat.{ℕ, suc, _-_, _^_}
 use mathlib.Core.Path.{_≡_}
 use mathlib.Core.List.{List, [], _∷_, _++_, map}
 use lib.ListN.{replicate}
 use Rattle.rule.specs.Lists.{numbers}
-use Rattle.rule.specs.Rule.{undecided, slot, Message, request, commit, abort, Verdict, accept, reject, hold, Weighing, Entry, voted, noted, applied, dropped, newAccount}
+use Rattle.rule.specs.Rule.{Rule, undecided, slot, Message, request, commit, abort, Verdict, accept, reject, hold, Weighing, Entry, voted, noted, applied, dropped, newAccount}
 use Rattle.rule.specs.Outcome.{undecidedOf, appliedIn, outcomes}
 use Rattle.rule.specs.Call.{Answer, refused, taken, call, reached}
 use Rattle.events.specs.declared.Event.{Event}
@@ -14,7 +14,6 @@ use Rattle.events.specs.declared.Life.the-variants.{Opened}
 use Rattle.events.specs.declared.State.{State}
 use Rattle.filing.specs.declared.Filed.{Filed}
 use Rattle.filing.specs.Slots.{RuleSlot}
-use Rattle.account.specs.First.{panel}
 use Rattle.account.specs.Places.{RuleAccount}
 
 -- what is asked in a case: how an event is weighed; what the outcomes are; what a message writes
@@ -59,16 +58,17 @@ findingIn told (taken xs) = told xs
 abbrev pub filed : Filed
 filed = record { second = 100 }
 
--- what an account answers; a request is sent under transaction 99
-abbrev pub answers : RuleAccount → Question → Finding
-answers a (asks e) = findingIn voteIn (call panel a (request 99 filed e) .answer)
-answers a outlook =
-    outcomesAre (map (λ (s : State). s .balance) (outcomes panel (a .progress) (a .state)))
-    (map (appliedIn (a .progress)) (numbers 0 (2 ^ undecidedOf (a .progress))))
-answers a (sends m) = findingIn writes (call panel a m .answer)
+module _ (R : Rule State Event ℕ) where
+  -- what an account answers; a request is sent under transaction 99
+  abbrev pub answers : RuleAccount → Question → Finding
+  answers a (asks e) = findingIn voteIn (call R a (request 99 filed e) .answer)
+  answers a outlook =
+      outcomesAre (map (λ (s : State). s .balance) (outcomes R (a .progress) (a .state)))
+      (map (appliedIn (a .progress)) (numbers 0 (2 ^ undecidedOf (a .progress))))
+  answers a (sends m) = findingIn writes (call R a m .answer)
 
-abbrev pub found : Row → Finding
-found row = answers (reached panel (newAccount panel Filed) (row .before)) (row .question)
+  abbrev pub found : Row → Finding
+  found row = answers (reached R (newAccount R Filed) (row .before)) (row .question)
 
 abbrev pub row : List (Message Filed Event) → Question → Finding → Row
 row before question said = record { before = before; question = question; said = said }
@@ -192,14 +192,15 @@ table =
     ∷ row case6 (sends (abort 3 filed)) (refuses 11)
     ∷ []
 
--- what is found is what is said, row by row
-abbrev pub CasesHold : Type 0
-CasesHold = map found table ≡ map (λ (r : Row). r .said) table
-
 -- withdrawals of 1, 2, 4 and so on up to 128 undecided on 255: each has a bit of its own, the oldest the lowest, so that the outcome of number n has n steps less (4.2)
 abbrev pub powers : List RuleSlot
 powers = map (λ (i : ℕ). slot i filed (Withdraw (2 ^ i)) undecided) (numbers 0 8)
 
-abbrev pub BitsHold : Type 0
-BitsHold =
-    map (λ (s : State). s .balance) (outcomes panel powers (record { life = Opened; balance = 255 })) ≡ map (λ (n : ℕ). 255 - n) (numbers 0 256)
+module _ (R : Rule State Event ℕ) where
+  -- what is found is what is said, row by row
+  abbrev pub CasesHoldBy : Type 0
+  CasesHoldBy = map (found R) table ≡ map (λ (r : Row). r .said) table
+
+  abbrev pub BitsHoldBy : Type 0
+  BitsHoldBy =
+      map (λ (s : State). s .balance) (outcomes R powers (record { life = Opened; balance = 255 })) ≡ map (λ (n : ℕ). 255 - n) (numbers 0 256)

@@ -4,3 +4,4 @@ pub mod Known
 pub mod Judged
 pub mod Taken
 pub mod Reached
+pub mod First

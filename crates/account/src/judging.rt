@@ -6,7 +6,8 @@ ghost use mathlib.Core.Path.{_≡_};
 ghost use Prim.Native.Nat.{_≤_};
 ghost use lib.ListN.{length, take};
 ghost use Rattle.account.specs.First.{inOrderOf};
-ghost use Rattle.account.specs.inside.Judged.{Judges, bothRows, allDiffer};
+ghost use Rattle.account.specs.inside.Judged.{bothRows, allDiffer};
+ghost use Rattle.account.specs.inside.First.{Judges};
 
 // What judging finds. The place of a transaction in progress, or held, is past the last place where there is none; its slot is the one found, the blank where none is.
 pub(crate) struct Judged {

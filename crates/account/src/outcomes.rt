@@ -16,7 +16,8 @@ ghost use Rattle.events.specs.declared.State.{State};
 ghost use Rattle.filing.specs.declared.Filed.{Filed};
 ghost use Rattle.filing.specs.Slots.{RuleSlot, places, decisionOf};
 ghost use Rattle.account.specs.Places.{used};
-ghost use Rattle.account.specs.inside.Known.{Knows, Decides, StaysHeld, verdictBy};
+ghost use Rattle.account.specs.inside.Known.{verdictBy};
+ghost use Rattle.account.specs.inside.First.{Knows, Decides, StaysHeld};
 
 // The outcomes of the events in progress: their range and their number, and whether each event finds its guard true however the older ones end; where one does not, the range says nothing.
 pub(crate) struct Outcomes {

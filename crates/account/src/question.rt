@@ -4,8 +4,8 @@ use crate::Outlook;
 use events::State;
 use filing::Slot;
 ghost use mathlib.Core.Path.{_≡_};
-ghost use Rattle.account.specs.First.{panel, outlookOf};
-ghost use Rattle.account.specs.inside.Reached.{followed};
+ghost use Rattle.account.specs.First.{outlookOf};
+ghost use Rattle.account.specs.inside.First.{followed};
 
 // A state on the way through the events in progress, and what is left of the outcome's number.
 struct Reached {
@@ -44,7 +44,7 @@ impl Account {
 impl Reached {
     // One event further (4.3); an undecided one takes the lowest bit off the number.
     fn past(self, slot: Slot) -> Reached
-        ensures { λ r. ⌜ r ≡ followed panel self slot ⌝ }
+        ensures { λ r. ⌜ r ≡ followed self slot ⌝ }
     {
         let state = self.state;
         let left = self.left;

@@ -3,7 +3,8 @@ use crate::Account;
 use crate::Answer;
 use crate::judging::Judged;
 ghost use mathlib.Core.Path.{_≡_};
-ghost use Rattle.account.specs.inside.Judged.{requestAnswer, commitAnswer, abortAnswer, answerBy};
+ghost use Rattle.account.specs.inside.Judged.{requestAnswer, commitAnswer, abortAnswer};
+ghost use Rattle.account.specs.inside.First.{answerOf};
 
 // What is asked of an account.
 pub(crate) enum Asked {
@@ -15,7 +16,7 @@ pub(crate) enum Asked {
 impl Judged {
     // The answer to what is asked, with so many requests held: 5 where the account is not in order, else by what was found.
     pub(crate) fn answer(self, asked: Asked, holding: usize) -> Answer
-        ensures { λ r. ⌜ r ≡ answerBy self asked holding ⌝ }
+        ensures { λ r. ⌜ r ≡ answerOf self asked holding ⌝ }
     {
         if !self.in_order {
             return Answer::Refused(5);

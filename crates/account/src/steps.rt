@@ -18,7 +18,8 @@ ghost use Rattle.filing.specs.Slots.{places};
 ghost use Rattle.filing.specs.Entries.{most};
 ghost use Rattle.account.specs.First.{stepOf};
 ghost use Rattle.account.specs.Steps.{refusedStep};
-ghost use Rattle.account.specs.inside.Taken.{WithoutEvent, WithoutRequest, Settles, Drains};
+ghost use Rattle.account.specs.inside.Taken.{WithoutEvent, WithoutRequest};
+ghost use Rattle.account.specs.inside.First.{Settles, Drains};
 
 impl Account {
     // A request: refused, or voted on, and in progress, held or gone by its vote.

@@ -1,4 +1,4 @@
--- The first panel's rule: its states in order are just those that runs of its events lead to, and where every guard holds its outcomes are those of the table's effects.
+-- The first panel's rule: its states in order are just those that runs of its events lead to.
 -- Assumes nothing.
 use Prim.Native.Nat.{ℕ, _+_, _-_, _≤_}
 use mathlib.Core.Path.{_≡_, refl, sym, _∙_, ap}
@@ -7,19 +7,16 @@ use mathlib.Core.List.{List, [], _∷_}
 use native.Mathlib.Omega.{arith}
 use lib.Dec.{leb, eqb}
 use borrow.Author.Tests.{leb-true, le-leb, eqb-true}
-use Rattle.rule.specs.Rule.{Slot}
-use Rattle.rule.specs.Outcome.{outcome}
 use Rattle.rule.specs.Run.{run, GuardsHold}
 use Rattle.rule.specs.InOrder.{Sound}
 use Rattle.rule.proofs.Lists.{and-left, and-right}
-use Rattle.rule.proofs.Safe.{Safe, outcome-agree}
 use Rattle.events.specs.declared.Event.{Event}
 use Rattle.events.specs.declared.Event.the-variants.{Open, Withdraw, Deposit, Close}
 use Rattle.events.specs.declared.Life.{Life}
 use Rattle.events.specs.declared.Life.the-variants.{New, Opened, Closed}
 use Rattle.events.specs.declared.State.{State}
 use Rattle.events.specs.Events.{limit, isNew, isOpened, guardOf, tableEffect, effectOf, stateFits}
-use Rattle.events.specs.Panel.{firstPanel, firstTable}
+use Rattle.events.specs.Panel.{firstPanel}
 use Rattle.events.proofs.Guards.{effect-table}
 
 -- a balance within the limit, on an account that is open
@@ -57,8 +54,3 @@ module _ (progressLimit heldLimit : ℕ) where
         kept = λ e s g h. ap stateFits (effect-table e s g) ∙ table-fits e s g h;
         reachable = λ s h. state-run (s .life) (s .balance) h;
       }
-
-  -- the outcomes of events that are safe are those of the table's effects
-  pub outcome-table : {G : Type 0} (xs : List (Slot G Event)) (n : ℕ) (s : State) → Safe (firstPanel progressLimit heldLimit) xs s
-      → outcome (firstTable progressLimit heldLimit) xs n s ≡ outcome (firstPanel progressLimit heldLimit) xs n s
-  outcome-table xs n s h = outcome-agree (firstPanel progressLimit heldLimit) (firstTable progressLimit heldLimit) (λ e t g. sym (effect-table e t g)) xs n s h

@@ -7,7 +7,7 @@ use mathlib.Core.Logic.{_↔_}
 use mathlib.Core.Bool.{true}
 use mathlib.Core.List.{List, [], _∷_, _++_, map}
 use Rattle.rule.specs.Lists.{every, some-of}
-use Rattle.rule.specs.Rule.{Slot}
+use Rattle.rule.specs.Rule.{Rule, Slot}
 use Rattle.rule.specs.Outcome.{outcomes}
 use Rattle.rule.specs.InOrder.{guarded}
 use Rattle.events.specs.declared.Event.{Event}
@@ -41,28 +41,33 @@ module _ (states : List State) where
 abbrev pub GlanceHolds : Type 0
 GlanceHolds = (states : List State) → Glance states
 
--- what a range tells of an event, on states of which there is one at least, by the first panel's guards and effects
-module _ (progressLimit heldLimit : ℕ) (first : State) (others : List State) (e : Event) where
+-- what a range tells of an event, on states of which there is one at least, by the guards and effects of a rule
+module _ (R : Rule State Event ℕ) (first : State) (others : List State) (e : Event) where
   pub record Tells : Type 0 where
-    pub all : everyIn e (rangeOf (first ∷ others)) ≡ every (firstPanel progressLimit heldLimit .guard e) (first ∷ others)
-    pub any : someIn e (rangeOf (first ∷ others)) ≡ some-of (firstPanel progressLimit heldLimit .guard e) (first ∷ others)
+    pub all : everyIn e (rangeOf (first ∷ others)) ≡ every (R .guard e) (first ∷ others)
+    pub any : someIn e (rangeOf (first ∷ others)) ≡ some-of (R .guard e) (first ∷ others)
     -- where the guard holds in all of them: the range after the event in all of them, and with it in a second lot of them
-    pub after : every (firstPanel progressLimit heldLimit .guard e) (first ∷ others) ≡ true
-        → rangeAfter e (rangeOf (first ∷ others)) ≡ rangeOf (map (firstPanel progressLimit heldLimit .effect e) (first ∷ others))
-    pub perhaps : every (firstPanel progressLimit heldLimit .guard e) (first ∷ others) ≡ true
-        → rangePerhaps e (rangeOf (first ∷ others)) ≡ rangeOf ((first ∷ others) ++ map (firstPanel progressLimit heldLimit .effect e) (first ∷ others))
+    pub after : every (R .guard e) (first ∷ others) ≡ true → rangeAfter e (rangeOf (first ∷ others)) ≡ rangeOf (map (R .effect e) (first ∷ others))
+    pub perhaps : every (R .guard e) (first ∷ others) ≡ true
+        → rangePerhaps e (rangeOf (first ∷ others)) ≡ rangeOf ((first ∷ others) ++ map (R .effect e) (first ∷ others))
 
-abbrev pub RangeTells : Type 0
-RangeTells = (progressLimit heldLimit : ℕ) (first : State) (others : List State) (e : Event) → Tells progressLimit heldLimit first others e
+-- a range answers for a rule: it tells of every event, on any states
+abbrev pub TellsOf : Rule State Event ℕ → Type 0
+TellsOf R = (first : State) (others : List State) (e : Event) → Tells R first others e
 
--- and kept through the events in progress
-module _ {G : Type 0} (progressLimit heldLimit : ℕ) (s : State) (xs : List (Slot G Event)) where
+-- and so kept through the events in progress it answers for all outcomes
+module _ {G : Type 0} (R : Rule State Event ℕ) (s : State) (xs : List (Slot G Event)) where
   pub record Answers : Type 0 where
-    pub range : rangeThrough xs (rangeOf (s ∷ [])) ≡ rangeOf (outcomes (firstPanel progressLimit heldLimit) xs s)
-    pub all : (e : Event) → everyIn e (rangeThrough xs (rangeOf (s ∷ []))) ≡ every (firstPanel progressLimit heldLimit .guard e) (outcomes (firstPanel progressLimit heldLimit) xs s)
-    pub any : (e : Event) → someIn e (rangeThrough xs (rangeOf (s ∷ []))) ≡ some-of (firstPanel progressLimit heldLimit .guard e) (outcomes (firstPanel progressLimit heldLimit) xs s)
+    pub range : rangeThrough xs (rangeOf (s ∷ [])) ≡ rangeOf (outcomes R xs s)
+    pub all : (e : Event) → everyIn e (rangeThrough xs (rangeOf (s ∷ []))) ≡ every (R .guard e) (outcomes R xs s)
+    pub any : (e : Event) → someIn e (rangeThrough xs (rangeOf (s ∷ []))) ≡ some-of (R .guard e) (outcomes R xs s)
+
+abbrev pub AnswersOf : Rule State Event ℕ → Type 1
+AnswersOf R = (G : Type 0) (s : State) (xs : List (Slot G Event)) → guarded R s [] xs ≡ true → Answers R s xs
+
+-- for the first panel's, whatever the limits
+abbrev pub RangeTells : Type 0
+RangeTells = (progressLimit heldLimit : ℕ) → TellsOf (firstPanel progressLimit heldLimit)
 
 abbrev pub RangeAnswers : Type 1
-RangeAnswers =
-    (G : Type 0) (progressLimit heldLimit : ℕ) (s : State) (xs : List (Slot G Event))
-    → guarded (firstPanel progressLimit heldLimit) s [] xs ≡ true → Answers progressLimit heldLimit s xs
+RangeAnswers = (progressLimit heldLimit : ℕ) → AnswersOf (firstPanel progressLimit heldLimit)

@@ -8,7 +8,6 @@ use lib.ListN.{replicate}
 use Rattle.rule.specs.Rule.{Rule}
 use Rattle.events.specs.declared.Event.{Event}
 use Rattle.events.specs.declared.State.{State}
-use Rattle.account.specs.First.{panel}
 use Rattle.register.specs.declared.Register.{Register}
 use Rattle.register.specs.Register.{freshBy}
 use Rattle.register.specs.Call.{calledBy}
@@ -16,7 +15,8 @@ use Rattle.register.specs.Sequence.{Input, Exchange, after, exchanges}
 use Rattle.register.proofs.Suits.{Suits, first-suits}
 use Rattle.live.specs.Registers.{registerOf}
 use Rattle.live.specs.Live.{liveBy}
-use Rattle.live.specs.Keeping.{imageAfterAll, liveExchanges, KeepsOn, KeepingHolds}
+use Rattle.live.specs.Keeping.{imageAfterAll, liveExchanges, KeepsOn, KeepingHoldsBy}
+use Rattle.live.specs.First.{KeepingHolds}
 use Rattle.live.proofs.RegisterImages.{zeroed}
 use Rattle.live.proofs.Keeping.{keeps}
 use Rattle.live.proofs.OwnAlone.{own-alone, looks}
@@ -46,9 +46,9 @@ module _ (R : Rule State Event ℕ) (k : Suits R) where
         zeroedSeen = seen-on inputs (replicate 1_344 0) ∙ ap (λ (r : Register). exchanges R r inputs) zeroed-is;
       }
 
-  pub keeping-holds : KeepingHolds R
+  pub keeping-holds : KeepingHoldsBy R
   keeping-holds = record { call = keeps R k; own = own-alone R k; calls = keeps-on; look = looks R k }
 
--- of the first panel
-pub first-keeping : KeepingHolds panel
-first-keeping = keeping-holds panel first-suits
+-- of the rule that is applied
+pub first-keeping : KeepingHolds
+first-keeping = keeping-holds _ first-suits

@@ -5,6 +5,7 @@ use mathlib.Core.List.{List}
 use Rattle.account.specs.declared.Outlook.{Outlook}
 use Rattle.account.specs.First.{panel}
 use Rattle.live.specs.Live.{Live, liveBy, lookBy}
+use Rattle.live.specs.Keeping.{KeepingHoldsBy}
 use Rattle.live.specs.Lines.{lineOfEntry}
 use Rattle.live.specs.Exports.{ExportedCall, exportedCall, ExportedLook, exportedLook, ExportedLine, exportedLine}
 
@@ -14,6 +15,11 @@ liveOf image bytes buffer = liveBy panel image bytes buffer
 abbrev pub lookOf : (image : List ℕ) (account number : ℕ) → Outlook
 lookOf image i n = lookBy panel image i n
 
+-- what is said of keeping a register as an image (15.6 and 15.7)
+abbrev pub KeepingHolds : Type 0
+KeepingHolds = KeepingHoldsBy panel
+
+-- what is exported
 abbrev pub exportedCallOf : (image message entries counts : List ℕ) → ExportedCall
 exportedCallOf image message entries counts = exportedCall (liveOf image message entries) counts
 

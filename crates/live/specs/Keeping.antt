@@ -71,7 +71,7 @@ module _ (R : Rule State Event ℕ) where
     pub short : account ≤ 15 → length image < account * 84 + 84 → lookBy R image account number ≡ Outlook′.Refused 5
     pub own : (other : List ℕ) → ownWords image account ≡ ownWords other account → lookBy R image account number ≡ lookBy R other account number
 
-  pub record KeepingHolds : Type 0 where
+  pub record KeepingHoldsBy : Type 0 where
     pub call : (image bytes buffer : List ℕ) → Keeps image bytes buffer
     pub own : CallsGoByOwnWords
     pub calls : (inputs : List Input) → KeepsOn inputs

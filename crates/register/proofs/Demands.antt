@@ -4,7 +4,7 @@ use mathlib.Core.Path.{refl}
 use Rattle.rule.proofs.Exact.{numbered, choices, exact, decided}
 use Rattle.account.specs.First.{panel}
 use Rattle.account.specs.Places.{accountOf}
-use Rattle.account.proofs.Table.{table-holds, outcomes-of-the-table}
+use Rattle.account.proofs.First.{table-holds, outcomes-of-the-table}
 use Rattle.message.proofs.Refusals.{reader-refuses, writer-refuses}
 use Rattle.message.proofs.Inverse.{reads-written, writes-read}
 use Rattle.register.specs.Register.{freshBy}

@@ -22,8 +22,7 @@ use Rattle.account.specs.declared.Account.{Account}
 use Rattle.account.specs.declared.Answer.the-variants as Answer′
 use Rattle.account.specs.Places.{RuleAccount, listsOf, accountOf}
 use Rattle.account.specs.Steps.{shownBy}
-use Rattle.account.specs.First.{panel, inOrderOf}
-use Rattle.account.specs.Table.{TableHolds, OutcomesOfTheTable}
+use Rattle.account.specs.First.{panel, inOrderOf, TableHolds, OutcomesOfTheTable}
 use Rattle.message.specs.declared.Message.{Message}
 use Rattle.message.specs.declared.Reading.the-variants as Reading′
 use Rattle.message.specs.Bytes.{headingOf}

@@ -12,6 +12,7 @@ use Rattle.register.specs.Call.{Result, calledBy}
 use Rattle.register.specs.Sequence as sequence
 use Rattle.register.specs.Sequence.{Input, Exchange}
 use Rattle.register.specs.Run.{Run, runBy, Exported, exported}
+use Rattle.register.specs.RunCalls.{IsCalls}
 
 -- the fresh register, a message sent to a register, the outcome question, and the call
 abbrev pub freshRegister : Register
@@ -33,9 +34,12 @@ after r inputs = sequence.after panel r inputs
 abbrev pub exchanges : Register → List Input → List Exchange
 exchanges r inputs = sequence.exchanges panel r inputs
 
--- a run of messages, and what is exported of it
+-- a run of messages, the calls that it is, and what is exported of it
 abbrev pub runOf : (bytes buffer : List ℕ) → Run
 runOf bytes buffer = runBy panel bytes buffer
+
+abbrev pub CallsOfRun : (bytes buffer : List ℕ) → Type 0
+CallsOfRun bytes buffer = IsCalls panel freshRegister bytes buffer (runOf bytes buffer)
 
 abbrev pub exportOf : (messages entries counts : List ℕ) → Exported
 exportOf messages entries counts = exported (runOf messages entries) counts

@@ -10,8 +10,10 @@ use mathlib.Core.List.{List, [], _∷_, _++_, map, append-nil}
 use mathlib.Core.Option.{none as no-number}
 use lib.ListN.{length, getD, take, drop, length-drop}
 use lib.Seq.{take-append-seam}
+use Rattle.rule.specs.Rule.{Rule}
+use Rattle.events.specs.declared.Event.{Event}
+use Rattle.events.specs.declared.State.{State}
 use Rattle.filing.specs.declared.Entries.{Entries}
-use Rattle.account.specs.First.{panel}
 use Rattle.account.specs.Steps.{refusalIn}
 use Rattle.layout.specs.Number.{AreBytes}
 use Rattle.message.specs.declared.Message.{Message}
@@ -28,7 +30,7 @@ use Rattle.register.specs.Sequence.{Input, Exchange, ByteStrings, ruleEntry, en
 use Rattle.register.specs.Run.{lengthAt, passedOf}
 use Rattle.register.specs.RunCalls.{Calls, ended, stopped, skipped, taken, refusals, refusedAmong}
 use Rattle.register.specs.Whole.{Whole, with-amount, without-amount}
-use Rattle.register.proofs.Suits.{first-suits}
+use Rattle.register.proofs.Suits.{Suits, first-suits}
 use Rattle.register.proofs.Passed.{passed-stops, passed-skips}
 use Rattle.register.proofs.Standing.{Stands, Refusable}
 use Rattle.register.proofs.Sending.{taken-bytes}
@@ -36,9 +38,8 @@ use Rattle.register.proofs.Calling as call
 use Rattle.register.proofs.Calling.{Calling, calling}
 use Rattle.register.proofs.Moved.{call-moves, call-tells}
 use Rattle.register.proofs.Whole.{some-bytes, one-length}
-use Rattle.register.proofs.Sequences.{each-call}
 use Rattle.register.proofs.RunCalls.{bytes-left}
-use Rattle.register.proofs.Demands.{demand2}
+use Rattle.register.proofs.Demands.{demand2, demand3}
 use Rattle.text.specs.Text.{decimal, linesOf}
 use Rattle.text.specs.Quoted.{quoted}
 use Rattle.text.specs.Output.{refusedLine, Turn, turnAt, passedAt, turnsFrom, textsOf, refusedOf}
@@ -90,7 +91,7 @@ reached-more r bytes buffer b reached =
     record {
       done = reached .done ++ (x ∷ []);
       strings = strings-more (reached .done) x (reached .strings) b;
-      same = rw (reached .same) (sym (each-call panel freshRegister x (reached .done) .last-after));
+      same = rw (reached .same) (sym (demand3 .calls freshRegister x (reached .done) .last-after));
     }
 
 -- the entries that it sends are read back from their bytes
@@ -150,9 +151,9 @@ module _ (r : Register) (bytes buffer : List ℕ) (reached : Reached r) (are : A
   alike (turn.taken m consumed next entries q e) = rw (call-sent r bytes buffer room m consumed _ q e) (record { refused = refl; register = refl; consumed = refl; stops = refl })
 
   -- a call writes no more than 315 bytes
-  written-few : {called : Result} → Calling panel r bytes buffer called → writtenOf (called .reply) ≤ 315
-  written-few (call.refused n why) = omega arith
-  written-few (call.taken m consumed t) = taken-bytes panel r m first-suits (t .free) (headingOf m .account)
+  written-few : {R : Rule State Event ℕ} → Suits R → {called : Result} → Calling R r bytes buffer called → writtenOf (called .reply) ≤ 315
+  written-few suits (call.refused n why) = omega arith
+  written-few suits (call.taken m consumed t) = taken-bytes _ r m suits (t .free) (headingOf m .account)
 
   module _ (x : Exchange) (is : x ≡ seenAs r bytes buffer) where
     gives : (reply : Reply) → x .reply ≡ reply → callOf r bytes buffer .reply ≡ reply
@@ -177,7 +178,7 @@ module _ (r : Register) (bytes buffer : List ℕ) (reached : Reached r) (are : A
         → Beside (turnsFrom most (callOf r bytes buffer .register) (drop whole bytes)) seen → Beside (turnsFrom (suc most) r bytes) (x ∷ seen)
     one-skips most n whole seen h q w rest =
         let reply = gives (Refused n) q in
-        let stands = stands-refused bytes n h (rw reply at (call-tells panel first-suits r bytes buffer)) in
+        let stands = stands-refused bytes n h (rw reply at (call-tells _ first-suits r bytes buffer)) in
         one-more most seen (a-byte w) (rw (reply, passed-skips n (lengthAt bytes) h, one-length (stands .whole) w) rest)
 
     one-takes : (most whole written : ℕ) (seen : List Exchange) → x .reply ≡ Taken whole written → Whole bytes whole
@@ -187,8 +188,8 @@ module _ (r : Register) (bytes buffer : List ℕ) (reached : Reached r) (are : A
     -- the buffer that the run goes on with
     room-left : (whole written : ℕ) → x .reply ≡ Taken whole written → length buffer ≤ length (drop written (x .buffer)) + 315
     room-left whole written q =
-        let few : written ≤ 315 = rw (gives (Taken whole written) q) at (written-few (calling panel r bytes buffer)) in
-        let size : length (x .buffer) ≡ length buffer = rw is (call-moves panel first-suits r bytes buffer .size) in
+        let few : written ≤ 315 = rw (gives (Taken whole written) q) at (written-few first-suits (calling _ r bytes buffer)) in
+        let size : length (x .buffer) ≡ length buffer = rw is (call-moves _ first-suits r bytes buffer .size) in
         omega (arith, length-drop written (x .buffer))
 
 -- ---- the calls of the run

@@ -8,9 +8,11 @@ use mathlib.Core.Logic.{inl, inr}
 use mathlib.Core.Bool.{false, true≢false}
 use mathlib.Core.List.{List}
 use lib.ListN.{length}
+use Rattle.rule.specs.Rule.{Rule}
+use Rattle.events.specs.declared.Event.{Event}
+use Rattle.events.specs.declared.State.{State}
 use Rattle.filing.specs.declared.Entries.{Entries}
 use Rattle.account.specs.declared.Answer.the-variants as Answer′
-use Rattle.account.specs.First.{panel}
 use Rattle.message.specs.declared.Message.{Message}
 use Rattle.message.specs.declared.Reading.{Reading}
 use Rattle.message.specs.declared.Reading.the-variants as Reading′
@@ -51,14 +53,14 @@ module _ (r : Register) (bytes : List ℕ) where
   unfolding turnAt
   turning = by-reading (readOf bytes) refl
     where
-      by-sent : (m : Message) (consumed : ℕ) → readOf bytes ≡ Reading′.Message m consumed → {sent : Sent} → sentOf r m ≡ sent → Sending panel r m sent
+      by-sent : {R : Rule State Event ℕ} (m : Message) (consumed : ℕ) → readOf bytes ≡ Reading′.Message m consumed → {sent : Sent} → sentOf r m ≡ sent → Sending R r m sent
           → Turning (sentTurn (headingOf m .account) consumed sent)
       by-sent m consumed q e (send.refused n high) = unsent m consumed n q high e
       by-sent m consumed q e (send.taken free) = taken m consumed _ _ q e
 
       by-reading : (x : Reading) → readOf bytes ≡ x → Turning (readTurn r x)
       by-reading (Reading′.Refused n) q = unread n q
-      by-reading (Reading′.Message m consumed) q = by-sent m consumed q refl (sending panel r m)
+      by-reading (Reading′.Message m consumed) q = by-sent m consumed q refl (sending _ r m)
 
   -- a message that was read stands whole at the beginning of the bytes
   pub stands-read : (m : Message) (consumed : ℕ) → readOf bytes ≡ Reading′.Message m consumed → (consumed ≡ lengthAt bytes) × Stands bytes

@@ -7,7 +7,6 @@ use mathlib.Core.Path.{_≡_}
 use mathlib.Core.List.{List, [], _∷_, _++_}
 use lib.ListN.{length, take}
 use Rattle.filing.specs.declared.Entry.{Entry}
-use Rattle.account.specs.First.{panel}
 use Rattle.layout.specs.Number.{AreBytes}
 use Rattle.entry.specs.declared.EntryReading.the-variants.{Found}
 use Rattle.entry.specs.Bytes.{bytesOfEntry, bytesOfEntries}
@@ -17,8 +16,7 @@ use Rattle.register.specs.declared.Reply.the-variants.{Refused, Taken}
 use Rattle.register.specs.Call.{Result, refusalOf, consumedOf}
 use Rattle.register.specs.Refusals.{accountIn}
 use Rattle.register.specs.Sequence.{Exchange}
-use Rattle.register.specs.RunCalls.{IsCalls}
-use Rattle.register.specs.First.{freshRegister, callOf, exchanges, runOf}
+use Rattle.register.specs.First.{freshRegister, callOf, exchanges, runOf, CallsOfRun}
 use Rattle.text.specs.Text.{decimal, lineOf, linesOf}
 use Rattle.text.specs.Quoted.{quoted}
 use Rattle.text.specs.Output.{refusedLine, lastLine, Turn, turnAt, outputOf}
@@ -74,7 +72,7 @@ pub record Prints (bytes : List ℕ) (seen : List Exchange) (met refused : ℕ) 
 abbrev pub OutputIsItsRun : Type 0
 OutputIsItsRun =
     (bytes buffer : List ℕ) → AreBytes bytes → length bytes ≤ 65_536 → 315 * length bytes ≤ length buffer
-    → (calls : IsCalls panel freshRegister bytes buffer (runOf bytes buffer))
+    → (calls : CallsOfRun bytes buffer)
     → Prints bytes (exchanges freshRegister (calls .inputs)) (runOf bytes buffer .counts .met) (runOf bytes buffer .counts .refused)
 
 -- and every longer one

@@ -1,4 +1,4 @@
--- What judging an account finds, and the refusals by it, as the account's own helpers have it (docs/REGISTER.md, 6 and 10.1).
+-- What judging an account finds, and the refusals by it, as the account's own helpers have it, over any rule of the events (docs/REGISTER.md, 6 and 10.1).
 -- Assumes nothing.
 use Prim.Native.Nat.{ℕ, _+_, _<_}
 use mathlib.Core.Path.{_≡_}
@@ -7,9 +7,10 @@ use mathlib.Core.List.{List, [], _∷_, _++_}
 use lib.Dec.{eqb, leb, ltb}
 use lib.ListN.{getD}
 use Rattle.rule.specs.Lists.{some-of, keep}
-use Rattle.rule.specs.Rule.{Message, request, commit, abort}
+use Rattle.rule.specs.Rule.{Rule, Message, request, commit, abort}
 use Rattle.rule.specs.Step.{named}
 use Rattle.events.specs.declared.Event.{Event}
+use Rattle.events.specs.declared.State.{State}
 use Rattle.filing.specs.declared.Filed.{Filed}
 use Rattle.filing.specs.declared.Slot.{Slot}
 use Rattle.filing.specs.Slots.{places, blank, isUndecided, slotOf}
@@ -20,8 +21,8 @@ use Rattle.account.specs.declared.judging.Judged.{Judged}
 use Rattle.account.specs.declared.refusing.Asked.{Asked}
 use Rattle.account.specs.declared.refusing.Asked.the-variants.{Request, Commit, Abort}
 use Rattle.account.specs.Places.{used, listsOf}
-use Rattle.account.specs.First.{heldLimit, inOrderOf}
-use Rattle.account.specs.inside.Known.{Knows}
+use Rattle.account.specs.InOrder.{inOrderBy}
+use Rattle.account.specs.inside.Known.{KnowsBy}
 
 -- the places of both rows
 abbrev pub bothRows : ℕ
@@ -39,12 +40,12 @@ pub record FoundAt (t : ℕ) (row : List Slot) (count at : ℕ) : Type 0 where
   pub is : at < places → getD row at blank .transaction ≡ t
 
 -- what is found of an account and a transaction: whether the account is in order; and of one in order, the outcomes of its events, and where the transaction stands
-pub record Judges (a : Account) (t : ℕ) (r : Judged) : Type 0 where
-  pub ordered : r .in_order ≡ inOrderOf a
-  pub knows : inOrderOf a ≡ true → Knows (a .state) (listsOf a .progress) (r .outcomes)
-  pub event : inOrderOf a ≡ true → FoundAt t (a .progress) (a .progressing) (r .event)
-  pub request : inOrderOf a ≡ true → FoundAt t (a .held) (a .holding) (r .request)
-  pub slot : inOrderOf a ≡ true → (some-of (named t) (listsOf a .progress) || some-of (named t) (listsOf a .held)) ≡ true
+pub record JudgesBy (R : Rule State Event ℕ) (a : Account) (t : ℕ) (r : Judged) : Type 0 where
+  pub ordered : r .in_order ≡ inOrderBy R a
+  pub knows : inOrderBy R a ≡ true → KnowsBy R (a .state) (listsOf a .progress) (r .outcomes)
+  pub event : inOrderBy R a ≡ true → FoundAt t (a .progress) (a .progressing) (r .event)
+  pub request : inOrderBy R a ≡ true → FoundAt t (a .held) (a .holding) (r .request)
+  pub slot : inOrderBy R a ≡ true → (some-of (named t) (listsOf a .progress) || some-of (named t) (listsOf a .held)) ≡ true
       → keep (named t) (listsOf a .progress) ++ keep (named t) (listsOf a .held) ≡ slotOf (r .slot) ∷ []
 
 -- the answers, by what was found
@@ -57,13 +58,14 @@ commitAnswer named waits committed = cond (not named) (Refused 8) (cond waits (R
 abbrev pub abortAnswer : (named committed : Bool) → Answer
 abortAnswer named committed = cond (not named) (Refused 8) (cond committed (Refused 11) Taken)
 
-abbrev pub askedAnswer : Judged → Asked → ℕ → Answer
-askedAnswer j Request holding = requestAnswer (ltb (j .event) places || ltb (j .request) places) (leb heldLimit holding)
-askedAnswer j Commit holding = commitAnswer (ltb (j .event) places || ltb (j .request) places) (ltb (j .request) places) (not (isUndecided (j .slot .decision)))
-askedAnswer j Abort holding = abortAnswer (ltb (j .event) places || ltb (j .request) places) (not (isUndecided (j .slot .decision)))
+module _ (R : Rule State Event ℕ) where
+  abbrev pub askedAnswer : Judged → Asked → ℕ → Answer
+  askedAnswer j Request holding = requestAnswer (ltb (j .event) places || ltb (j .request) places) (leb (R .heldLimit) holding)
+  askedAnswer j Commit holding = commitAnswer (ltb (j .event) places || ltb (j .request) places) (ltb (j .request) places) (not (isUndecided (j .slot .decision)))
+  askedAnswer j Abort holding = abortAnswer (ltb (j .event) places || ltb (j .request) places) (not (isUndecided (j .slot .decision)))
 
-unfoldable pub answerBy : Judged → Asked → ℕ → Answer
-answerBy j asked holding = cond (j .in_order) (askedAnswer j asked holding) (Refused 5)
+  unfoldable pub answerBy : Judged → Asked → ℕ → Answer
+  answerBy j asked holding = cond (j .in_order) (askedAnswer j asked holding) (Refused 5)
 
 -- what a message asks, and the transaction that it names
 abbrev pub messageAsks : Message Filed Event → Asked

@@ -17,8 +17,8 @@ reached s n = record { state = s; left = n }
 
 module _ (R : Rule State Event ℕ) where
   -- one event further; an undecided one takes the lowest bit off the number
-  unfoldable pub followed : Reached → Slot → Reached
-  followed r x =
+  unfoldable pub followedBy : Reached → Slot → Reached
+  followedBy r x =
       cond (isUndecided (x .decision))
       (cond (eqb (r .left % 2) 1) (reached (R .effect (x .event) (r .state)) (r .left / 2)) (reached (r .state) (r .left / 2)))
       (reached (R .effect (x .event) (r .state)) (r .left))

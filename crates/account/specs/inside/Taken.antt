@@ -1,4 +1,4 @@
--- A step that is taken, as the account's own helpers have it: the rule's step in places (docs/REGISTER.md, 5 and 9.4).
+-- A step that is taken, as the account's own helpers have it: the rule's step in places, over any rule of the events (docs/REGISTER.md, 5 and 9.4).
 -- Assumes nothing.
 use Prim.Native.Nat.{ℕ, _<_}
 use mathlib.Core.Path.{_≡_}
@@ -6,6 +6,7 @@ use mathlib.Core.Bool.{true}
 use mathlib.Core.List.{List, [], _∷_}
 use lib.ListN.{getD, set}
 use Rattle.rule.specs.Lists.{every}
+use Rattle.rule.specs.Rule.{Rule}
 use Rattle.rule.specs.InOrder.{withoutDecision, guarded}
 use Rattle.rule.specs.Step as rule-step
 use Rattle.events.specs.declared.Event.{Event}
@@ -20,7 +21,6 @@ use Rattle.account.specs.declared.Account.{Account}
 use Rattle.account.specs.declared.Answer.the-variants as Answer′
 use Rattle.account.specs.declared.Stepped.{Stepped}
 use Rattle.account.specs.Places.{RuleAccount, used, accountOf}
-use Rattle.account.specs.First.{panel}
 
 abbrev pub RuleStep : Type 0
 RuleStep = rule-step.Step Filed State Event ℕ
@@ -44,19 +44,20 @@ WithoutRequest a t r = (x : RuleAccount) → a ≡ accountOf x → r ≡ account
 abbrev pub markedAt : ℕ → List Slot → List Slot
 markedAt at slots = set slots at (committedSlot (getD slots at blank))
 
--- what follows a commit or an abort of an account that is its lists', whose requests held have no decision, behind the call's own entry
-abbrev pub Settles : Account → ℕ → Entry → Stepped → Type 0
-Settles a marked first r =
-    (x : RuleAccount) (events : List RuleSlot) (own : RuleEntry)
-    → a ≡ accountOf x → every withoutDecision (x .held) ≡ true
-    → (marked < places → marked < a .progressing) → used (markedAt marked (a .progress)) (a .progressing) ≡ events
-    → first ≡ entryOf own → guarded panel (x .state) [] events ≡ true
-    → r ≡ takenAs (rule-step.after (own ∷ []) (rule-step.settle panel (x .state) events (x .held)))
+module _ (R : Rule State Event ℕ) where
+  -- what follows a commit or an abort of an account that is its lists', whose requests held have no decision, behind the call's own entry
+  abbrev pub SettlesBy : Account → ℕ → Entry → Stepped → Type 0
+  SettlesBy a marked first r =
+      (x : RuleAccount) (events : List RuleSlot) (own : RuleEntry)
+      → a ≡ accountOf x → every withoutDecision (x .held) ≡ true
+      → (marked < places → marked < a .progressing) → used (markedAt marked (a .progress)) (a .progressing) ≡ events
+      → first ≡ entryOf own → guarded R (x .state) [] events ≡ true
+      → r ≡ takenAs (rule-step.after (own ∷ []) (rule-step.settle R (x .state) events (x .held)))
 
--- the requests held of such an account, behind what was written
-abbrev pub Drains : Account → Entries → Stepped → Type 0
-Drains a entries r =
-    (x : RuleAccount) (written : List RuleEntry)
-    → a ≡ accountOf x → every withoutDecision (x .held) ≡ true
-    → entries ≡ entriesOf written → guarded panel (x .state) [] (x .progress) ≡ true
-    → r ≡ takenAs (rule-step.after written (rule-step.drain panel (x .state) (x .progress) (x .held)))
+  -- the requests held of such an account, behind what was written
+  abbrev pub DrainsBy : Account → Entries → Stepped → Type 0
+  DrainsBy a entries r =
+      (x : RuleAccount) (written : List RuleEntry)
+      → a ≡ accountOf x → every withoutDecision (x .held) ≡ true
+      → entries ≡ entriesOf written → guarded R (x .state) [] (x .progress) ≡ true
+      → r ≡ takenAs (rule-step.after written (rule-step.drain R (x .state) (x .progress) (x .held)))

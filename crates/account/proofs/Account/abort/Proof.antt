@@ -1,17 +1,12 @@
 -- What is refused is refused by what judging found; of what is taken the transaction is taken out.
 -- Assumes nothing.
 use mathlib.Core.Path.{_≡_, ap, _∙_}
-use mathlib.Core.Bool.{true, cond}
-use mathlib.Core.Option.{none, some}
-use lib.Dec.{lit≤}
 use borrow.Author.Needs.{needs}
 use Rattle.rule.specs.Rule.{abort}
-use Rattle.rule.specs.Call.{refusal}
-use Rattle.account.specs.Places.{listsOf}
 use Rattle.account.specs.Steps.{refusalIn}
-use Rattle.account.specs.First.{panel, inOrderOf}
 use Rattle.account.proofs.Places.{as-many}
-use Rattle.account.proofs.Ordered.{Ordered, ordered}
+use Rattle.account.proofs.First.{first-ranged, refusalOf, Taken, Ordered}
+use Rattle.account.proofs.Ordered.{ordered}
 use Rattle.account.proofs.Answered.{judged-answer, answer-refused, answer-order, answer-taken}
 use Rattle.account.proofs.Ended.{left-holding, rest-progressing, rest-holding, abort-settled}
 use Rattle.account.proofs.Account.abort.Statement.{statement}
@@ -19,26 +14,26 @@ use Rattle.account.proofs.Account.abort.Tie as tie
 
 -- the answer is the rule's,
 says : (c : tie.After-answer) → let a = c .before .before .args in
-    refusalIn (c .answer .result) ≡ cond (inOrderOf (a .self)) (refusal panel (listsOf (a .self)) (abort (a .transaction) (a .filed))) (some 5)
+    refusalIn (c .answer .result) ≡ refusalOf (a .self) (abort (a .transaction) (a .filed))
 says c =
     let start = c .before .before in
     let a = start .args in
     ap refusalIn (c .answer .ensures)
-    ∙ judged-answer (a .self) (c .before .judge .result) (as-many (a .self .held) (start .good .0 .1 .1 .1 .1 .1 .0 .1 .0 .1)) (abort (a .transaction) (a .filed)) (c .before .judge .ensures)
+    ∙ judged-answer _ first-ranged (a .self) (c .before .judge .result) (as-many (a .self .held) (start .good .0 .1 .1 .1 .1 .1 .0 .1 .0 .1)) (abort (a .transaction) (a .filed)) (c .before .judge .ensures)
 
 -- and past it the account is in order
 taken : (c : tie.After-enum-told) → let a = c .before .before .before .before .args in
-    (inOrderOf (a .self) ≡ true) × (refusal panel (listsOf (a .self)) (abort (a .transaction) (a .filed)) ≡ none)
+    Taken (a .self) (abort (a .transaction) (a .filed))
 taken c =
     let answered = c .before .before in
     let a = answered .before .before .args in
-    answer-order panel (a .self) (abort (a .transaction) (a .filed)) (answered .answer .result) (says answered) (c .enum-told .given .1)
+    answer-order _ (a .self) (abort (a .transaction) (a .filed)) (answered .answer .result) (says answered) (c .enum-told .given .1)
 
-own : (c : tie.After-enum-told) → let a = c .before .before .before .before .args in Ordered panel (lit≤ tt) (lit≤ tt) (a .self)
+own : (c : tie.After-enum-told) → let a = c .before .before .before .before .args in Ordered (a .self)
 own c =
     let start = c .before .before .before .before in
     let a = start .args .self in
-    ordered panel (lit≤ tt) (lit≤ tt) a (as-many (a .progress) (start .good .0 .1 .1 .1 .0 .1 .0 .1)) (as-many (a .held) (start .good .0 .1 .1 .1 .1 .1 .0 .1 .0 .1)) (taken c .0)
+    ordered _ a first-ranged (as-many (a .progress) (start .good .0 .1 .1 .1 .0 .1 .0 .1)) (as-many (a .held) (start .good .0 .1 .1 .1 .1 .1 .0 .1 .0 .1)) (taken c .0)
 
 judge-requires : tie.Need-judge-requires
 judge-requires c κs = search needs
@@ -59,7 +54,7 @@ returns : tie.Need-returns
 returns c =
     let answered = c .before .before .before in
     let a = answered .before .before .args in
-    c .refused .ensures ∙ answer-refused panel (a .self) (abort (a .transaction) (a .filed)) (answered .answer .result) (says answered) _ (c .before .enum-told2 .given .1)
+    c .refused .ensures ∙ answer-refused _ (a .self) (abort (a .transaction) (a .filed)) (answered .answer .result) (says answered) _ (c .before .enum-told2 .given .1)
 
 without-event-requires : tie.Need-without-event-requires
 without-event-requires c κs = own (c .before) .progressing
@@ -69,7 +64,7 @@ without-request-requires c κs =
     let told = c .before .before in
     let start = told .before .before .before .before in
     let a = start .args in
-    left-holding (a .self) (as-many (a .self .progress) (start .good .0 .1 .1 .1 .0 .1 .0 .1)) (own told) (a .transaction) (a .filed) (c .without-event .result) (c .without-event .ensures)
+    left-holding _ (a .self) (as-many (a .self .progress) (start .good .0 .1 .1 .1 .0 .1 .0 .1)) (own told) (a .transaction) (a .filed) (c .without-event .result) (c .without-event .ensures)
 
 dropped-requires : tie.Need-dropped-requires
 dropped-requires c κs = search needs
@@ -82,8 +77,8 @@ settle-requires c κs =
     let a = start .args in
     let size = as-many (a .self .progress) (start .good .0 .1 .1 .1 .0 .1 .0 .1) in
     let without = c .before .without-request in (
-      rest-progressing (a .self) size (own told) (a .transaction) (a .filed) (event .without-event .result) (event .without-event .ensures) (without .result) (without .ensures),
-      rest-holding (a .self) size (own told) (a .transaction) (a .filed) (event .without-event .result) (event .without-event .ensures) (without .result) (without .ensures),
+      rest-progressing _ (a .self) size (own told) (a .transaction) (a .filed) (event .without-event .result) (event .without-event .ensures) (without .result) (without .ensures),
+      rest-holding _ (a .self) size (own told) (a .transaction) (a .filed) (event .without-event .result) (event .without-event .ensures) (without .result) (without .ensures),
     )
 
 returns-2 : tie.Need-returns-2
@@ -96,8 +91,8 @@ returns-2 c =
     let start = judged .before in
     let a = start .args in
     let size = as-many (a .self .progress) (start .good .0 .1 .1 .1 .0 .1 .0 .1) in
-    abort-settled (a .self) size (own told) (a .transaction) (a .filed) (event .without-event .result) (event .without-event .ensures) (request .without-request .result) (request .without-request .ensures) (taken told .1) (judged .judge .result .slot) (judged .judge .ensures .slot (taken told .0)) (c .before .dropped .result) (c .before .dropped .ensures) (c .settle .result) (c .settle .ensures)
-    ∙ answer-taken panel (a .self) (abort (a .transaction) (a .filed)) (answered .answer .result) (says answered) (told .enum-told .given .1)
+    abort-settled _ (a .self) size (own told) (a .transaction) (a .filed) (event .without-event .result) (event .without-event .ensures) (request .without-request .result) (request .without-request .ensures) (taken told .1) (judged .judge .result .slot) (judged .judge .ensures .slot (taken told .0)) (c .before .dropped .result) (c .before .dropped .ensures) (c .settle .result) (c .settle .ensures)
+    ∙ answer-taken _ (a .self) (abort (a .transaction) (a .filed)) (answered .answer .result) (says answered) (told .enum-told .given .1)
 
 pub abort-spec : {M : Type 1} → statement M
 abort-spec =

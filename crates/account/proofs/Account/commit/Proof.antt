@@ -1,17 +1,12 @@
 -- What is refused is refused by what judging found; what is taken is committed where it was found.
 -- Assumes nothing.
 use mathlib.Core.Path.{_≡_, ap, _∙_}
-use mathlib.Core.Bool.{true, cond}
-use mathlib.Core.Option.{none, some}
-use lib.Dec.{lit≤}
 use borrow.Author.Needs.{needs}
 use Rattle.rule.specs.Rule.{commit}
-use Rattle.rule.specs.Call.{refusal}
-use Rattle.account.specs.Places.{listsOf}
 use Rattle.account.specs.Steps.{refusalIn}
-use Rattle.account.specs.First.{panel, inOrderOf}
 use Rattle.account.proofs.Places.{as-many}
-use Rattle.account.proofs.Ordered.{Ordered, ordered}
+use Rattle.account.proofs.First.{first-ranged, refusalOf, Taken, Ordered}
+use Rattle.account.proofs.Ordered.{ordered}
 use Rattle.account.proofs.Answered.{judged-answer, answer-refused, answer-order, answer-taken}
 use Rattle.account.proofs.Ended.{commit-settled}
 use Rattle.account.proofs.Account.commit.Statement.{statement}
@@ -19,26 +14,26 @@ use Rattle.account.proofs.Account.commit.Tie as tie
 
 -- the answer is the rule's,
 says : (c : tie.After-answer) → let a = c .before .before .args in
-    refusalIn (c .answer .result) ≡ cond (inOrderOf (a .self)) (refusal panel (listsOf (a .self)) (commit (a .transaction) (a .filed))) (some 5)
+    refusalIn (c .answer .result) ≡ refusalOf (a .self) (commit (a .transaction) (a .filed))
 says c =
     let start = c .before .before in
     let a = start .args in
     ap refusalIn (c .answer .ensures)
-    ∙ judged-answer (a .self) (c .before .judge .result) (as-many (a .self .held) (start .good .0 .1 .1 .1 .1 .1 .0 .1 .0 .1)) (commit (a .transaction) (a .filed)) (c .before .judge .ensures)
+    ∙ judged-answer _ first-ranged (a .self) (c .before .judge .result) (as-many (a .self .held) (start .good .0 .1 .1 .1 .1 .1 .0 .1 .0 .1)) (commit (a .transaction) (a .filed)) (c .before .judge .ensures)
 
 -- and past it the account is in order
 taken : (c : tie.After-enum-told) → let a = c .before .before .before .before .args in
-    (inOrderOf (a .self) ≡ true) × (refusal panel (listsOf (a .self)) (commit (a .transaction) (a .filed)) ≡ none)
+    Taken (a .self) (commit (a .transaction) (a .filed))
 taken c =
     let answered = c .before .before in
     let a = answered .before .before .args in
-    answer-order panel (a .self) (commit (a .transaction) (a .filed)) (answered .answer .result) (says answered) (c .enum-told .given .1)
+    answer-order _ (a .self) (commit (a .transaction) (a .filed)) (answered .answer .result) (says answered) (c .enum-told .given .1)
 
-own : (c : tie.After-enum-told) → let a = c .before .before .before .before .args in Ordered panel (lit≤ tt) (lit≤ tt) (a .self)
+own : (c : tie.After-enum-told) → let a = c .before .before .before .before .args in Ordered (a .self)
 own c =
     let start = c .before .before .before .before in
     let a = start .args .self in
-    ordered panel (lit≤ tt) (lit≤ tt) a (as-many (a .progress) (start .good .0 .1 .1 .1 .0 .1 .0 .1)) (as-many (a .held) (start .good .0 .1 .1 .1 .1 .1 .0 .1 .0 .1)) (taken c .0)
+    ordered _ a first-ranged (as-many (a .progress) (start .good .0 .1 .1 .1 .0 .1 .0 .1)) (as-many (a .held) (start .good .0 .1 .1 .1 .1 .1 .0 .1 .0 .1)) (taken c .0)
 
 judge-requires : tie.Need-judge-requires
 judge-requires c κs = search needs
@@ -59,7 +54,7 @@ returns : tie.Need-returns
 returns c =
     let answered = c .before .before .before in
     let a = answered .before .before .args in
-    c .refused .ensures ∙ answer-refused panel (a .self) (commit (a .transaction) (a .filed)) (answered .answer .result) (says answered) _ (c .before .enum-told2 .given .1)
+    c .refused .ensures ∙ answer-refused _ (a .self) (commit (a .transaction) (a .filed)) (answered .answer .result) (says answered) _ (c .before .enum-told2 .given .1)
 
 noted-requires : tie.Need-noted-requires
 noted-requires c κs = search needs
@@ -74,8 +69,8 @@ returns-2 c =
     let judged = answered .before in
     let start = judged .before in
     let a = start .args in
-    commit-settled (a .self) (as-many (a .self .progress) (start .good .0 .1 .1 .1 .0 .1 .0 .1)) (own told) (a .transaction) (a .filed) (taken told .1) (judged .judge .result .event) (judged .judge .ensures .event (taken told .0)) (c .before .noted .result) (c .before .noted .ensures) (c .settle .result) (c .settle .ensures)
-    ∙ answer-taken panel (a .self) (commit (a .transaction) (a .filed)) (answered .answer .result) (says answered) (told .enum-told .given .1)
+    commit-settled _ (a .self) (as-many (a .self .progress) (start .good .0 .1 .1 .1 .0 .1 .0 .1)) (own told) (a .transaction) (a .filed) (taken told .1) (judged .judge .result .event) (judged .judge .ensures .event (taken told .0)) (c .before .noted .result) (c .before .noted .ensures) (c .settle .result) (c .settle .ensures)
+    ∙ answer-taken _ (a .self) (commit (a .transaction) (a .filed)) (answered .answer .result) (says answered) (told .enum-told .given .1)
 
 pub commit-spec : {M : Type 1} → statement M
 commit-spec =

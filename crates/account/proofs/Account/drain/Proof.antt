@@ -10,7 +10,8 @@ use borrow.Author.Needs.{needs}
 use Rattle.filing.specs.Entries.{isAccepted}
 use Rattle.account.proofs.Places.{as-many}
 use Rattle.account.proofs.Known.{knows-few}
-use Rattle.account.proofs.Voting.{Voting, voting-none, voting-stays, voting-accept, voting-reject, voting-all}
+use Rattle.account.proofs.First.{first-ranged, Voting}
+use Rattle.account.proofs.Voting.{voting-none, voting-stays, voting-accept, voting-reject, voting-all}
 use Rattle.account.proofs.Account.drain.Statement.{statement}
 use Rattle.account.proofs.Account.drain.Tie as tie
 
@@ -29,7 +30,7 @@ loop-holds c =
     let a = start .args .self in
     let size : length (a .progress) ≡ 8 = as-many (a .progress) (start .good .0 .1 .1 .1 .0 .1 .0 .1) in
     let sizeHeld : length (a .held) ≡ 8 = as-many (a .held) (start .good .0 .1 .1 .1 .1 .1 .0 .1 .0 .1) in
-    voting-none a (start .args .written) (c .outcomes .result) (start .pre .0) (omega arith) (start .pre .1) (omega arith) (start .pre .2) (c .outcomes .ensures)
+    voting-none _ a (start .args .written) (c .outcomes .result) (start .pre .0) (omega arith) (start .pre .1) (omega arith) (start .pre .2) (c .outcomes .ensures)
 
 mul-slot : tie.Need-mul-slot Inv-loop μ-loop
 mul-slot c = search needs
@@ -74,7 +75,7 @@ with-requires : tie.Need-with-requires Inv-loop μ-loop
 with-requires c κs =
     let test = c .before .before .before in
     let v = test .before .before .before .before .before .loop in
-    knows-few _ (v .inv .events) (v .outcomes) (v .inv .knows) (omega (arith, free c, v .inv .number))
+    knows-few _ _ (v .inv .events) (v .outcomes) (v .inv .knows) (omega (arith, free c, v .inv .number))
 
 voted-requires : tie.Need-voted-requires Inv-loop μ-loop
 voted-requires c κs = search needs
@@ -119,10 +120,10 @@ loop-again c =
     let first = rw (test .is-held .ensures) at (w .0 .taken) in
     let entry = w .3 in
     ⊎-elim
-    (λ u. rw (w .4, w .5, w .6, w .7, u .2, u .3) (voting-accept (a .self) (a .written) (v .next) (v .entries) (v .outcomes) (v .voted) (v .at) (v .inv) below (weigh .result) (weigh .ensures) (entry .result) (entry .ensures) first (u .1 .result) (sym (w .1 .ensures) ∙ u .0 .taken) (u .1 .ensures)))
-    (λ u. rw (w .4, w .5, w .6, w .7, u .1, u .2) (voting-reject (a .self) (a .written) (v .next) (v .entries) (v .outcomes) (v .voted) (v .at) (v .inv) below (weigh .result) (weigh .ensures) (entry .result) (entry .ensures) first (sym (w .1 .ensures) ∙ u .0 .left)))
+    (λ u. rw (w .4, w .5, w .6, w .7, u .2, u .3) (voting-accept _ (a .self) (a .written) (v .next) (v .entries) (v .outcomes) (v .voted) (v .at) (v .inv) below (weigh .result) (weigh .ensures) (entry .result) (entry .ensures) first first-ranged (u .1 .result) (sym (w .1 .ensures) ∙ u .0 .taken) (u .1 .ensures)))
+    (λ u. rw (w .4, w .5, w .6, w .7, u .1, u .2) (voting-reject _ (a .self) (a .written) (v .next) (v .entries) (v .outcomes) (v .voted) (v .at) (v .inv) below (weigh .result) (weigh .ensures) (entry .result) (entry .ensures) first (sym (w .1 .ensures) ∙ u .0 .left)))
     (w .2 .came))
-    (λ w. rw (w .1, w .2, w .3, w .4) (voting-stays (a .self) (a .written) (v .next) (v .entries) (v .outcomes) (v .voted) (v .at) (v .inv) below (weigh .result) (weigh .ensures) (rw (test .is-held .ensures) at (w .0 .left))))
+    (λ w. rw (w .1, w .2, w .3, w .4) (voting-stays _ (a .self) (a .written) (v .next) (v .entries) (v .outcomes) (v .voted) (v .at) (v .inv) below (weigh .result) (weigh .ensures) (rw (test .is-held .ensures) at (w .0 .left))))
     (c .if2 .came)
 
 sub-next : tie.Need-sub-next Inv-loop μ-loop
@@ -133,7 +134,7 @@ returns c =
     let way = c .before .before .before in
     let a = way .before .before .args in
     let v = way .loop in
-    voting-all (a .self) (a .written) (v .next) (v .entries) (v .outcomes) (v .voted) (v .at) (v .inv) (c .before .if1 .left)
+    voting-all _ (a .self) (a .written) (v .next) (v .entries) (v .outcomes) (v .voted) (v .at) (v .inv) (c .before .if1 .left)
 
 pub drain-spec : {M : Type 1} → statement M
 drain-spec =

@@ -11,19 +11,19 @@ use borrow.Author.Tests.{ltb-false}
 use Rattle.rule.proofs.Lists.{or-left, or-right}
 use Rattle.filing.specs.Slots.{places, blank}
 use Rattle.account.specs.Places.{used}
-use Rattle.account.specs.First.{panel}
-use Rattle.account.specs.inside.Known.{Knows}
+use Rattle.account.specs.inside.First.{Knows}
 use Rattle.account.proofs.Places.{as-many, used-more, count-used}
 use Rattle.account.proofs.Known.{knows-few, knows-end}
 use Rattle.account.proofs.Sought.{sought-here, sought-else}
-use Rattle.account.proofs.Passed.{EventsPassed, BlanksPassed, RequestsPassed, events-none, events-more, events-end, blanks-more, blanks-end, requests-none, requests-more, requests-end}
+use Rattle.account.proofs.First.{EventsPassed, RequestsPassed}
+use Rattle.account.proofs.Passed.{BlanksPassed, events-none, events-more, events-end, blanks-more, blanks-end, requests-none, requests-more, requests-end}
 use Rattle.account.proofs.Concluded.{judges-beyond, judges-all}
 use Rattle.account.proofs.Account.judge.Statement.{statement}
 use Rattle.account.proofs.Account.judge.Tie as tie
 
 abbrev Inv-loop : tie.InvT-loop
 Inv-loop transaction self progressing holding outcomes₀ event₀ request found₀ in-order₀ transactions₀ at₀ outcomes event found in-order transactions at =
-    Knows (self .state) (used (self .progress) at) outcomes × EventsPassed panel self transaction event found in-order transactions at
+    Knows (self .state) (used (self .progress) at) outcomes × EventsPassed self transaction event found in-order transactions at
 
 abbrev μ-loop : tie.MeasureT-loop
 μ-loop transaction self progressing holding outcomes₀ event₀ request found₀ in-order₀ transactions₀ at₀ outcomes event found in-order transactions at =
@@ -39,7 +39,7 @@ abbrev μ-loop2 : tie.MeasureT-loop2
 
 abbrev Inv-loop3 : tie.InvT-loop3
 Inv-loop3 transaction self progressing holding outcomes event request₀ found₀ in-order₀ transactions₀ at₀ request found in-order transactions at =
-    RequestsPassed panel self transaction (outcomes .guarded) found₀ in-order₀ transactions₀ request found in-order transactions at
+    RequestsPassed self transaction (outcomes .guarded) found₀ in-order₀ transactions₀ request found in-order transactions at
 
 abbrev μ-loop3 : tie.MeasureT-loop3
 μ-loop3 transaction self progressing holding outcomes event request₀ found₀ in-order₀ transactions₀ at₀ request found in-order transactions at =
@@ -84,14 +84,14 @@ all-known : (c : tie.After-loop Inv-loop μ-loop Inv-loop2 μ-loop2 Inv-loop3 μ
 all-known c =
     let a = begun c .args .t1 in
     let v = c .before .loop in
-    knows-end (a .state) (a .progress) (v .outcomes) (v .at) (a .progressing) (events-passed c) (v .inv .0)
+    knows-end _ (a .state) (a .progress) (v .outcomes) (v .at) (a .progressing) (events-passed c) (v .inv .0)
 
 of-requires :
     tie.Need-of-requires Inv-loop μ-loop Inv-loop2 μ-loop2 Inv-loop3 μ-loop3 Inv-loop4 μ-loop4
 of-requires c κs = search needs
 
 returns : tie.Need-returns Inv-loop μ-loop Inv-loop2 μ-loop2 Inv-loop3 μ-loop3 Inv-loop4 μ-loop4
-returns c = let start = c .before .before .before in judges-beyond (start .args .t1) (start .args .transaction) (c .before .of .result) (c .if1 .taken)
+returns c = let start = c .before .before .before in judges-beyond _ (start .args .t1) (start .args .transaction) (c .before .of .result) (c .if1 .taken)
 
 fits-requires :
     tie.Need-fits-requires Inv-loop μ-loop Inv-loop2 μ-loop2 Inv-loop3 μ-loop3 Inv-loop4 μ-loop4
@@ -101,7 +101,7 @@ loop-holds :
     tie.Need-loop-holds Inv-loop μ-loop Inv-loop2 μ-loop2 Inv-loop3 μ-loop3 Inv-loop4 μ-loop4
 loop-holds c =
     let start = c .before .before .before .before in
-    (c .before .before .of .ensures, events-none panel (start .args .t1) (start .args .transaction) (c .fits2 .result) _ (c .fits2 .ensures) refl)
+    (c .before .before .of .ensures, events-none _ (start .args .t1) (start .args .transaction) (c .fits2 .result) _ (c .fits2 .ensures) refl)
 
 mul-slot : tie.Need-mul-slot Inv-loop μ-loop Inv-loop2 μ-loop2 Inv-loop3 μ-loop3 Inv-loop4 μ-loop4
 mul-slot c = omega (arith, counts (counted (c .before)) .0)
@@ -138,7 +138,7 @@ with-requires c κs =
     let a = passed .before .before .before .args .t1 in
     let v = turn .loop in
     let few : length (used (a .progress) (v .at)) ≤ 7 = rw (count-used (a .progress) (v .at) (omega (arith, rows (passed .before .before .before) .0, counts passed .0))) (omega (arith, counts passed .0)) in
-    knows-few (a .state) (used (a .progress) (v .at)) (v .outcomes) (v .inv .0) few
+    knows-few _ (a .state) (used (a .progress) (v .at)) (v .outcomes) (v .inv .0) few
 
 mul-transactions :
     tie.Need-mul-transactions Inv-loop μ-loop Inv-loop2 μ-loop2 Inv-loop3 μ-loop3 Inv-loop4 μ-loop4
@@ -183,7 +183,7 @@ loop-again c =
     let sought = ⊎-elim (λ l. here (l .0 .taken) (l .1) (l .2)) (λ r. else (r .0 .left) (r .1) (r .2)) (c .if2 .came) in
     let added = c .before .before in (
       rw (used-more (a .progress) (v .at) blank room) (added .with .ensures (a .state) (used (a .progress) (v .at)) (x .transaction) (x .filed) (v .inv .0)),
-      events-more panel a t (v .event) (v .found) (v .in-order) (v .transactions) (v .at) less few (rows start .0) (v .inv .1) (c .if2 .event) (c .if2 .found) sought
+      events-more _ a t (v .event) (v .found) (v .in-order) (v .transactions) (v .at) less few (rows start .0) (v .inv .1) (c .if2 .event) (c .if2 .found) sought
           (added .before .is-undecided .result) (added .before .is-undecided .ensures),
     )
 
@@ -240,7 +240,7 @@ loop3-holds c =
     let walked = c .before .before .before in
     let start = counted walked .before .before .before in
     let v = walked .loop in
-    requests-none panel (start .args .t1) (start .args .transaction) (v .outcomes .guarded) (v .found) (c .before .loop2 .in-order) (v .transactions) (v .inv .1 .listed .both)
+    requests-none _ (start .args .t1) (start .args .transaction) (v .outcomes .guarded) (v .found) (c .before .loop2 .in-order) (v .transactions) (v .inv .1 .listed .both)
 
 mul-slot-3 :
     tie.Need-mul-slot-3 Inv-loop μ-loop Inv-loop2 μ-loop2 Inv-loop3 μ-loop3 Inv-loop4 μ-loop4
@@ -346,7 +346,7 @@ loop3-again c =
     let else = sought-else t (a .held) (w .found) (v .at) (v .request) (v .found) room (v .inv .sought) (c .if3 .request) (c .if3 .found) in
     let sought = ⊎-elim (λ l. here (l .0 .taken) (l .1) (l .2)) (λ r. else (r .0 .left) (r .1) (r .2)) (c .if3 .came) in
     let asked = c .before .before in
-    requests-more panel a t (w .outcomes .guarded) (w .found) _ (w .transactions) (v .request) (v .found) (v .in-order) (v .transactions) (v .at) less (few .0) (few .1) (rows start .1) (v .inv)
+    requests-more _ a t (w .outcomes .guarded) (w .found) _ (w .transactions) (v .request) (v .found) (v .in-order) (v .transactions) (v .at) less (few .0) (few .1) (rows start .1) (v .inv)
     (c .if3 .request) (c .if3 .found) sought (asked .before .is-undecided2 .result) (asked .stays-held .result) (asked .before .is-undecided2 .ensures)
     (λ g. asked .stays-held .ensures (a .state) (used (a .progress) (a .progressing)) (all-known (inside .before .before .before .before)) g (count-used (a .progress) (a .progressing) (omega (arith, rows start .0, few .0))))
 
@@ -426,7 +426,7 @@ returns-2 c =
     let v4 = blanks-held .before .loop4 in
     let few = counts (counted (events .before)) in
     let requests-passed : v3 .at ≡ a .holding = omega (arith, v3 .inv .within, requests .loop3-test .left) in
-    judges-all a t (v1 .outcomes) (v1 .event) (v3 .request) (v3 .found) (v4 .in-order) (c .differ .result)
+    judges-all _ a t (v1 .outcomes) (v1 .event) (v3 .request) (v3 .found) (v4 .in-order) (c .differ .result)
     (record {
       few = few .0;
       fewHeld = few .1;
@@ -434,13 +434,13 @@ returns-2 c =
       events = v1 .in-order;
       listed = v1 .transactions;
       knows = all-known events;
-      passed = events-end panel a t (v1 .event) (v1 .found) (v1 .in-order) (v1 .transactions) (v1 .at) (events-passed events) (v1 .inv .1);
+      passed = events-end _ a t (v1 .event) (v1 .found) (v1 .in-order) (v1 .transactions) (v1 .at) (events-passed events) (v1 .inv .1);
       blanks = v2 .in-order;
       blank = blanks-end (a .progress) (v1 .in-order) (v1 .at) (a .progressing) (v2 .in-order) (v2 .at) (events-passed events) (blanks .loop2-test .left) (rows start .0) (v2 .inv);
       requests = v3 .in-order;
       listedAll = v3 .transactions;
       passedHeld =
-          requests-end panel a t (v1 .outcomes .guarded) (v1 .found) (v2 .in-order) (v1 .transactions) (v3 .request) (v3 .found) (v3 .in-order) (v3 .transactions) (v3 .at) requests-passed (v3 .inv);
+          requests-end _ a t (v1 .outcomes .guarded) (v1 .found) (v2 .in-order) (v1 .transactions) (v3 .request) (v3 .found) (v3 .in-order) (v3 .transactions) (v3 .at) requests-passed (v3 .inv);
       blankHeld = blanks-end (a .held) (v3 .in-order) (v3 .at) (a .holding) (v4 .in-order) (v4 .at) requests-passed (blanks-held .loop4-test .left) (rows start .1) (v4 .inv);
       differs = c .differ .ensures;
     })

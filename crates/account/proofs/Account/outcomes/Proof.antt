@@ -7,7 +7,7 @@ use lib.ListN.{length, getD}
 use borrow.Author.Needs.{needs}
 use Rattle.filing.specs.Slots.{places, blank}
 use Rattle.account.specs.Places.{used}
-use Rattle.account.specs.inside.Known.{Knows}
+use Rattle.account.specs.inside.First.{Knows}
 use Rattle.account.proofs.Places.{as-many, used-more, count-used}
 use Rattle.account.proofs.Known.{knows-few}
 use Rattle.account.proofs.Account.outcomes.Statement.{statement}
@@ -41,7 +41,7 @@ with-requires c κs =
     let start = c .before .before .before .before .before in
     let a = start .args .t1 in
     let few : length (used (a .progress) (v .at)) ≤ 7 = rw (count-used (a .progress) (v .at) (omega (arith, many start))) (omega arith) in
-    knows-few (a .state) (used (a .progress) (v .at)) (v .outcomes) (v .inv .1) few
+    knows-few _ (a .state) (used (a .progress) (v .at)) (v .outcomes) (v .inv .1) few
 
 add-at : tie.Need-add-at Inv-loop μ-loop
 add-at c = omega arith

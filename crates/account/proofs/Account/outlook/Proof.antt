@@ -10,9 +10,9 @@ use borrow.Author.Needs.{needs}
 use Rattle.filing.specs.Slots.{places}
 use Rattle.account.specs.declared.question.Reached.{Reached}
 use Rattle.account.specs.Places.{used}
-use Rattle.account.specs.First.{panel, inOrderOf}
-use Rattle.account.specs.inside.Reached.{reachedPast}
+use Rattle.account.specs.First.{inOrderOf}
 use Rattle.account.proofs.Places.{as-many}
+use Rattle.account.proofs.First.{reachedBehind}
 use Rattle.account.proofs.Clauses.{clauses}
 use Rattle.account.proofs.Slices.{usedFrom}
 use Rattle.account.proofs.Walks.{reached-next, reached-end, outlook-order, outlook-none, outlook-there}
@@ -22,7 +22,7 @@ use Rattle.account.proofs.Account.outlook.Tie as tie
 abbrev Inv-loop : tie.InvT-loop
 Inv-loop number self reached₀ at₀ reached at =
     (at ≤ self .progressing)
-    × (reachedPast panel (usedFrom at (self .progressing) (self .progress)) (reached .left) (reached .state) ≡ reachedPast panel (used (self .progress) (self .progressing)) number (self .state))
+    × (reachedBehind (usedFrom at (self .progressing) (self .progress)) (reached .left) (reached .state) ≡ reachedBehind (used (self .progress) (self .progressing)) number (self .state))
 
 abbrev μ-loop : tie.MeasureT-loop
 μ-loop number self reached₀ at₀ reached at = self .progressing - at
@@ -36,7 +36,7 @@ in-order : (c : tie.Else1 Inv-loop μ-loop) → inOrderOf (c .before .before .ar
 in-order c = sym (c .before .in-order .ensures) ∙ not-false _ (c .if1 .left)
 
 few : (c : tie.Else1 Inv-loop μ-loop) → c .before .before .args .t1 .progressing ≤ places
-few c = clauses panel (c .before .before .args .t1) (in-order c) .progressing
+few c = clauses _ (c .before .before .args .t1) (in-order c) .progressing
 
 abbrev start-of : tie.After-loop Inv-loop μ-loop → tie.Start Inv-loop μ-loop
 start-of c = c .before .before .before .before .before
@@ -44,11 +44,11 @@ start-of c = c .before .before .before .before .before
 -- past all events
 way-end : (c : tie.After-loop Inv-loop μ-loop)
     → c .before .loop .reached
-    ≡ reachedPast panel (used (start-of c .args .t1 .progress) (start-of c .args .t1 .progressing)) (start-of c .args .number) (start-of c .args .t1 .state)
+    ≡ reachedBehind (used (start-of c .args .t1 .progress) (start-of c .args .t1 .progressing)) (start-of c .args .number) (start-of c .args .t1 .state)
 way-end c =
     let a = start-of c .args .t1 in
     let v = c .before .loop in
-    reached-end panel (v .reached) (a .progressing) (a .progress) (v .at) (c .loop-test .left) ∙ v .inv .1
+    reached-end _ (v .reached) (a .progressing) (a .progress) (v .at) (c .loop-test .left) ∙ v .inv .1
 
 in-order-requires : tie.Need-in-order-requires Inv-loop μ-loop
 in-order-requires c κs = search needs
@@ -56,7 +56,7 @@ in-order-requires c κs = search needs
 returns : tie.Need-returns Inv-loop μ-loop
 returns c =
     let a = c .before .before .args in
-    outlook-order panel (a .t1) (a .number) (sym (c .before .in-order .ensures) ∙ not-true _ (c .if1 .taken))
+    outlook-order _ (a .t1) (a .number) (sym (c .before .in-order .ensures) ∙ not-true _ (c .if1 .taken))
 
 loop-holds : tie.Need-loop-holds Inv-loop μ-loop
 loop-holds c = (omega arith, refl)
@@ -83,7 +83,7 @@ loop-again c =
     let a = ordered .before .before .args .t1 in
     let v = turn .loop in
     let room : a .progressing ≤ length (a .progress) = omega (arith, many (ordered .before .before), few ordered) in
-    (omega arith, rw (c .past .ensures) (reached-next panel (v .reached) (a .progressing) (a .progress) (v .at) (omega arith) room) ∙ v .inv .1)
+    (omega arith, rw (c .past .ensures) (reached-next _ (v .reached) (a .progressing) (a .progress) (v .at) (omega arith) room) ∙ v .inv .1)
 
 returns-2 : tie.Need-returns-2 Inv-loop μ-loop
 returns-2 c =
@@ -91,7 +91,7 @@ returns-2 c =
     let ordered = end .before .before .before in
     let a = ordered .before .before .args in
     let left = ap (λ (r : Reached). r .left) (way-end end) in
-    outlook-none panel (a .t1) (a .number) (in-order ordered) (omega (arith, c .if2 .taken))
+    outlook-none _ (a .t1) (a .number) (in-order ordered) (omega (arith, c .if2 .taken))
 
 returns-3 : tie.Need-returns-3 Inv-loop μ-loop
 returns-3 c =
@@ -99,7 +99,7 @@ returns-3 c =
     let ordered = end .before .before .before in
     let a = ordered .before .before .args in
     let left = ap (λ (r : Reached). r .left) (way-end end) in
-    rw (way-end end) (outlook-there panel (a .t1) (a .number) (in-order ordered) (omega (arith, c .before .if2 .left)))
+    rw (way-end end) (outlook-there _ (a .t1) (a .number) (in-order ordered) (omega (arith, c .before .if2 .left)))
 
 pub outlook-spec : {M : Type 1} → statement M
 outlook-spec =

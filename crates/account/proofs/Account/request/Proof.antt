@@ -3,30 +3,27 @@
 use Prim.Native.Nat.{_<_}
 use mathlib.Core.Path.{_≡_, ap, _∙_}
 use mathlib.Core.Logic.{⊎-elim}
-use mathlib.Core.Bool.{cond}
-use mathlib.Core.Option.{some}
 use native.Mathlib.Omega.{arith}
 use borrow.Author.Needs.{needs}
 use Rattle.rule.specs.Rule.{request, voted}
-use Rattle.rule.specs.Call.{refusal}
 use Rattle.filing.specs.Entries.{isAccepted, weighingOf, entryOf, onlyEntry}
 use Rattle.account.specs.Places.{listsOf}
 use Rattle.account.specs.Steps.{refusalIn}
-use Rattle.account.specs.First.{panel, inOrderOf}
 use Rattle.account.proofs.Places.{as-many}
-use Rattle.account.proofs.Asked.{Weighed, request-weighed, asked-accept, asked-reject, asked-hold}
+use Rattle.account.proofs.First.{first-ranged, refusalOf, Weighed}
+use Rattle.account.proofs.Asked.{request-weighed, asked-accept, asked-reject, asked-hold}
 use Rattle.account.proofs.Answered.{judged-answer, answer-refused, answer-order, answer-taken}
 use Rattle.account.proofs.Account.request.Statement.{statement}
 use Rattle.account.proofs.Account.request.Tie as tie
 
 -- the answer is the rule's
 says : (c : tie.After-answer) → let a = c .before .before .args in
-    refusalIn (c .answer .result) ≡ cond (inOrderOf (a .self)) (refusal panel (listsOf (a .self)) (request (a .transaction) (a .filed) (a .event))) (some 5)
+    refusalIn (c .answer .result) ≡ refusalOf (a .self) (request (a .transaction) (a .filed) (a .event))
 says c =
     let start = c .before .before in
     let a = start .args in
     ap refusalIn (c .answer .ensures)
-    ∙ judged-answer (a .self) (c .before .judge .result) (as-many (a .self .held) (start .good .0 .1 .1 .1 .1 .1 .0 .1 .0 .1)) (request (a .transaction) (a .filed) (a .event)) (c .before .judge .ensures)
+    ∙ judged-answer _ first-ranged (a .self) (c .before .judge .result) (as-many (a .self .held) (start .good .0 .1 .1 .1 .1 .1 .0 .1 .0 .1)) (request (a .transaction) (a .filed) (a .event)) (c .before .judge .ensures)
 
 judge-requires : tie.Need-judge-requires
 judge-requires c κs = search needs
@@ -47,7 +44,7 @@ returns : tie.Need-returns
 returns c =
     let answered = c .before .before .before in
     let a = answered .before .before .args in
-    c .refused .ensures ∙ answer-refused panel (a .self) (request (a .transaction) (a .filed) (a .event)) (answered .answer .result) (says answered) _ (c .before .enum-told2 .given .1)
+    c .refused .ensures ∙ answer-refused _ (a .self) (request (a .transaction) (a .filed) (a .event)) (answered .answer .result) (says answered) _ (c .before .enum-told2 .given .1)
 
 -- past it the account is in order, and the weighing is the rule's
 weighed : (c : tie.After-decide-behind) →
@@ -63,9 +60,9 @@ weighed c =
     let size = as-many (a .self .progress) (start .good .0 .1 .1 .1 .0 .1 .0 .1) in
     let sizeHeld = as-many (a .self .held) (start .good .0 .1 .1 .1 .1 .1 .0 .1 .0 .1) in
     let message = request (a .transaction) (a .filed) (a .event) in
-    let taken = answer-order panel (a .self) message (answered .answer .result) (says answered) (told .enum-told .given .1) in
+    let taken = answer-order _ (a .self) message (answered .answer .result) (says answered) (told .enum-told .given .1) in
     let found = judged .judge in
-    request-weighed (a .self) size sizeHeld (a .transaction) (a .filed) (a .event) (taken .0) (taken .1) (found .result .outcomes) (found .ensures .knows (taken .0)) (c .decide-behind .result) (c .decide-behind .ensures)
+    request-weighed _ first-ranged (a .self) size sizeHeld (a .transaction) (a .filed) (a .event) (taken .0) (taken .1) (found .result .outcomes) (found .ensures .knows (taken .0)) (c .decide-behind .result) (c .decide-behind .ensures)
 
 decide-behind-requires : tie.Need-decide-behind-requires
 decide-behind-requires c κs = search needs
@@ -125,14 +122,14 @@ returns-2 c =
     let w = weighing .decide-behind .result in
     rw taken
     (⊎-elim
-    (λ u. let v = u .1 .given .1 in rw (u .2) (asked-accept panel self lists (known .lists) (a .transaction) (a .filed) (a .event) w (known .decided) (c .only .result) entries v (known .free (ap isAccepted v))))
+    (λ u. let v = u .1 .given .1 in rw (u .2) (asked-accept _ self lists (known .lists) (a .transaction) (a .filed) (a .event) w (known .decided) (c .only .result) entries v (known .free (ap isAccepted v))))
     (λ y.
     ⊎-elim
-    (λ u. rw (u .2) (asked-reject panel self lists (known .lists) (a .transaction) (a .filed) (a .event) w (known .decided) (c .only .result) entries (u .1 .given .1)))
-    (λ u. rw (u .2) (asked-hold panel self lists (known .lists) (a .transaction) (a .filed) (a .event) w (known .decided) (c .only .result) entries (u .1 .given .1) (known .room)))
+    (λ u. rw (u .2) (asked-reject _ self lists (known .lists) (a .transaction) (a .filed) (a .event) w (known .decided) (c .only .result) entries (u .1 .given .1)))
+    (λ u. rw (u .2) (asked-hold _ self lists (known .lists) (a .transaction) (a .filed) (a .event) w (known .decided) (c .only .result) entries (u .1 .given .1) (known .room)))
     y)
     (join .match2 .came))
-    ∙ answer-taken panel (a .self) message (answered .answer .result) (says answered) taken
+    ∙ answer-taken _ (a .self) message (answered .answer .result) (says answered) taken
 
 pub request-spec : {M : Type 1} → statement M
 request-spec =

@@ -13,7 +13,8 @@ use Rattle.filing.specs.Entries.{entryOf, onlyEntry}
 use Rattle.filing.specs.Slots.{committedSlot, blank}
 use Rattle.account.specs.inside.Taken.{markedAt}
 use Rattle.account.proofs.Places.{as-many}
-use Rattle.account.proofs.Applying.{Applying, applying-none, applying-stays, applying-next, applying-all}
+use Rattle.account.proofs.First.{Applying}
+use Rattle.account.proofs.Applying.{applying-none, applying-stays, applying-next, applying-all}
 use Rattle.account.proofs.Voting.{drained-idle}
 use Rattle.account.proofs.Account.settle.Statement.{statement}
 use Rattle.account.proofs.Account.settle.Tie as tie
@@ -53,11 +54,11 @@ loop-holds c =
     ⊎-elim
     (λ w. rw (w .3) (
       ap (set row (a .marked)) (w .2 .ensures),
-      applying-none (a .self) _ (onlyEntry (a .first)) (start .pre .0) (rw (length-set row (a .marked) (w .2 .result)) (omega arith)) refl refl refl,
+      applying-none _ (a .self) _ (onlyEntry (a .first)) (start .pre .0) (rw (length-set row (a .marked) (w .2 .result)) (omega arith)) refl refl refl,
     ))
     (λ w. rw (w .1) (
       sym (set-out row (a .marked) (committedSlot (getD row (a .marked) blank)) (omega (arith, w .0 .left))),
-      applying-none (a .self) (a .self) (onlyEntry (a .first)) (start .pre .0) (omega arith) refl refl refl,
+      applying-none _ (a .self) (a .self) (onlyEntry (a .first)) (start .pre .0) (omega arith) refl refl refl,
     ))
     (join .if1 .came)
 
@@ -123,10 +124,10 @@ loop-again c =
           (λ w.
           let first = rw (test .is-undecided .ensures) at (w .0 .taken) in
           let entry = w .2 .ensures ∙ ap (λ (s : State). entryOf (applied (x .transaction) (x .filed) (x .event) (s .balance))) (w .1 .ensures) in
-          rw (w .3, w .4, w .5, w .6, w .1 .ensures) (applying-next (a .self) (join .if1 .next .progress) (onlyEntry (a .first)) (v .next) (v .entries) (v .state) (v .ended) (v .at) (v .inv .1) below (w .2 .result) entry first))
+          rw (w .3, w .4, w .5, w .6, w .1 .ensures) (applying-next _ (a .self) (join .if1 .next .progress) (onlyEntry (a .first)) (v .next) (v .entries) (v .state) (v .ended) (v .at) (v .inv .1) below (w .2 .result) entry first))
           (λ w.
           let later = rw (test .is-undecided .ensures) at (w .0 .left) in
-          rw (w .1, w .2, w .3, w .4) (applying-stays (a .self) (join .if1 .next .progress) (onlyEntry (a .first)) (v .next) (v .entries) (v .state) (v .ended) (v .at) (v .inv .1) below later))
+          rw (w .1, w .2, w .3, w .4) (applying-stays _ (a .self) (join .if1 .next .progress) (onlyEntry (a .first)) (v .next) (v .entries) (v .state) (v .ended) (v .at) (v .inv .1) below later))
           (c .if3 .came),
     )
 
@@ -148,7 +149,7 @@ returns c =
     let a = start .args in
     let v = way .loop in
     let size : length (a .self .progress) ≡ 8 = as-many (a .self .progress) (start .good .0 .1 .1 .1 .0 .1 .0 .1) in
-    applying-all (a .self) (a .marked) (a .first) (join .if1 .next .progress) (onlyEntry (a .first)) (v .next) (v .entries) (v .state) (v .ended) (v .at) (v .inv .1) (omega arith) (v .inv .0) size refl (c .drain .result) (c .drain .ensures)
+    applying-all _ (a .self) (a .marked) (a .first) (join .if1 .next .progress) (onlyEntry (a .first)) (v .next) (v .entries) (v .state) (v .ended) (v .at) (v .inv .1) (omega arith) (v .inv .0) size refl (c .drain .result) (c .drain .ensures)
 
 returns-2 : tie.Need-returns-2 Inv-loop μ-loop
 returns-2 c =
@@ -158,7 +159,7 @@ returns-2 c =
     let a = start .args in
     let v = way .loop in
     let size : length (a .self .progress) ≡ 8 = as-many (a .self .progress) (start .good .0 .1 .1 .1 .0 .1 .0 .1) in
-    applying-all (a .self) (a .marked) (a .first) (join .if1 .next .progress) (onlyEntry (a .first)) (v .next) (v .entries) (v .state) (v .ended) (v .at) (v .inv .1) (omega arith) (v .inv .0) size refl _ (drained-idle _ (v .entries) (omega arith))
+    applying-all _ (a .self) (a .marked) (a .first) (join .if1 .next .progress) (onlyEntry (a .first)) (v .next) (v .entries) (v .state) (v .ended) (v .at) (v .inv .1) (omega arith) (v .inv .0) size refl _ (drained-idle _ _ (v .entries) (omega arith))
 
 pub settle-spec : {M : Type 1} → statement M
 settle-spec =

@@ -1,7 +1,6 @@
 -- Each way out is one law of `proofs/Finished.antt`; the three kinds of messages go the same way.
 -- Assumes nothing.
 use mathlib.Core.Path.{_≡_, refl, ap, sym, _∙_}
-use Rattle.account.specs.First.{panel}
 use Rattle.message.specs.declared.Message.{Message}
 use Rattle.message.specs.declared.Message.the-variants.{Request, Commit, Abort}
 use Rattle.message.specs.declared.Reading.the-variants as Reading′
@@ -42,7 +41,7 @@ returns c =
     let a = began at-reading .args in
     let read = at-reading .read-message in
     let given = told .enum-told .given in
-    gives (live-unread panel (a .image .now) (a .bytes .now) (a .buffer .now) (read .result) (given .0 .0) (c .of-reading .result) (read .ensures) (given .1) (c .of-reading .ensures)) _ _ _
+    gives (live-unread _ (a .image .now) (a .bytes .now) (a .buffer .now) (read .result) (given .0 .0) (c .of-reading .result) (read .ensures) (given .1) (c .of-reading .ensures)) _ _ _
     (refl, refl, refl)
 
 returns-2 : tie.Need-returns-2
@@ -52,7 +51,7 @@ returns-2 c =
     let a = began at-reading .args in
     let read = at-reading .read-message in
     let given = at-message .reading .given in
-    gives (live-roomless panel (a .image .now) (a .bytes .now) (a .buffer .now) (read .result) (given .0 .0) (given .0 .1 .0) (read .ensures) (given .1) (c .if1 .taken)) _ _ _
+    gives (live-roomless _ (a .image .now) (a .bytes .now) (a .buffer .now) (read .result) (given .0 .0) (given .0 .1 .0) (read .ensures) (given .1) (c .if1 .taken)) _ _ _
     (refl, refl, refl)
 
 enum-known-message : tie.Need-enum-known-message
@@ -97,7 +96,7 @@ finish-requires c κs =
     let stepped = c .before .before in
     let read = stepped .before in
     let a = began (reading-of (requested-read read)) .args in
-    finish-fits panel (a .image .now) (a .bytes .now) (a .buffer .now) (requested-sent read) (requested-read read .reading .given .0 .1 .0) (read .read-account .result) (requested read)
+    finish-fits _ (a .image .now) (a .bytes .now) (a .buffer .now) (requested-sent read) (requested-read read .reading .given .0 .1 .0) (read .read-account .result) (requested read)
     (stepped .request .result) (stepped .request .ensures) first-suits
 
 enum-known-message-2 : tie.Need-enum-known-message-2
@@ -142,7 +141,7 @@ finish-requires-2 c κs =
     let stepped = c .before .before in
     let read = stepped .before in
     let a = began (reading-of (committed-read read)) .args in
-    finish-fits panel (a .image .now) (a .bytes .now) (a .buffer .now) (committed-sent read) (committed-read read .reading .given .0 .1 .0) (read .read-account2 .result) (committed read)
+    finish-fits _ (a .image .now) (a .bytes .now) (a .buffer .now) (committed-sent read) (committed-read read .reading .given .0 .1 .0) (read .read-account2 .result) (committed read)
     (stepped .commit .result) (stepped .commit .ensures) first-suits
 
 enum-known-message-3 : tie.Need-enum-known-message-3
@@ -187,7 +186,7 @@ finish-requires-3 c κs =
     let stepped = c .before .before in
     let read = stepped .before in
     let a = began (reading-of (aborted-read read)) .args in
-    finish-fits panel (a .image .now) (a .bytes .now) (a .buffer .now) (aborted-sent read) (aborted-read read .reading .given .0 .1 .0) (read .read-account3 .result) (aborted read)
+    finish-fits _ (a .image .now) (a .bytes .now) (a .buffer .now) (aborted-sent read) (aborted-read read .reading .given .0 .1 .0) (read .read-account3 .result) (aborted read)
     (stepped .abort .result) (stepped .abort .ensures) first-suits
 
 same-length : tie.Need-same-length
@@ -203,7 +202,7 @@ returns-3 c =
     let read = stepped .before in
     let a = began (reading-of (requested-read read)) .args in
     gives
-    (live-finished panel (a .image .now) (a .bytes .now) (a .buffer .now) (requested-sent read) (requested-read read .reading .given .0 .1 .0) (read .read-account .result) (requested read)
+    (live-finished _ (a .image .now) (a .bytes .now) (a .buffer .now) (requested-sent read) (requested-read read .reading .given .0 .1 .0) (read .read-account .result) (requested read)
     (stepped .request .result) (stepped .request .ensures))
     _ _ _ (finished .finish .ensures)
 
@@ -220,7 +219,7 @@ returns-4 c =
     let read = stepped .before in
     let a = began (reading-of (committed-read read)) .args in
     gives
-    (live-finished panel (a .image .now) (a .bytes .now) (a .buffer .now) (committed-sent read) (committed-read read .reading .given .0 .1 .0) (read .read-account2 .result) (committed read)
+    (live-finished _ (a .image .now) (a .bytes .now) (a .buffer .now) (committed-sent read) (committed-read read .reading .given .0 .1 .0) (read .read-account2 .result) (committed read)
     (stepped .commit .result) (stepped .commit .ensures))
     _ _ _ (finished .finish2 .ensures)
 
@@ -237,7 +236,7 @@ returns-5 c =
     let read = stepped .before in
     let a = began (reading-of (aborted-read read)) .args in
     gives
-    (live-finished panel (a .image .now) (a .bytes .now) (a .buffer .now) (aborted-sent read) (aborted-read read .reading .given .0 .1 .0) (read .read-account3 .result) (aborted read)
+    (live-finished _ (a .image .now) (a .bytes .now) (a .buffer .now) (aborted-sent read) (aborted-read read .reading .given .0 .1 .0) (read .read-account3 .result) (aborted read)
     (stepped .abort .result) (stepped .abort .ensures))
     _ _ _ (finished .finish3 .ensures)
 

@@ -9,7 +9,7 @@ use Rattle.account.proofs.judging.Judged.answer.Tie as tie
 returns : tie.Need-returns
 returns c =
     let a = c .before .before .args in
-    answer-disorder (a .self) (a .asked) (a .holding) (not-true _ (c .if1 .taken))
+    answer-disorder _ (a .self) (a .asked) (a .holding) (not-true _ (c .if1 .taken))
 
 is-undecided-requires : tie.Need-is-undecided-requires
 is-undecided-requires c κs = search needs
@@ -37,21 +37,21 @@ returns-2 c =
     let tested = c .before .before .before in
     let passed = tested .before .before .before .before in
     let a = passed .before .before .args in
-    answer-asked (a .self) (a .asked) _ (a .holding) (c .answer-to-request .result) (not-false _ (passed .if1 .left)) (c .before .enum-told .given .1) (c .answer-to-request .ensures)
+    answer-asked _ (a .self) (a .asked) _ (a .holding) (c .answer-to-request .result) (not-false _ (passed .if1 .left)) (c .before .enum-told .given .1) (c .answer-to-request .ensures)
 
 returns-3 : tie.Need-returns-3
 returns-3 c =
     let tested = c .before .before .before in
     let passed = tested .before .before .before .before in
     let a = passed .before .before .args in
-    answer-asked (a .self) (a .asked) _ (a .holding) (c .answer-to-commit .result) (not-false _ (passed .if1 .left)) (c .before .enum-told2 .given .1) (rw (tested .is-undecided .ensures) at (c .answer-to-commit .ensures))
+    answer-asked _ (a .self) (a .asked) _ (a .holding) (c .answer-to-commit .result) (not-false _ (passed .if1 .left)) (c .before .enum-told2 .given .1) (rw (tested .is-undecided .ensures) at (c .answer-to-commit .ensures))
 
 returns-4 : tie.Need-returns-4
 returns-4 c =
     let tested = c .before .before .before in
     let passed = tested .before .before .before .before in
     let a = passed .before .before .args in
-    answer-asked (a .self) (a .asked) _ (a .holding) (c .answer-to-abort .result) (not-false _ (passed .if1 .left)) (c .before .enum-told3 .given .1) (rw (tested .is-undecided .ensures) at (c .answer-to-abort .ensures))
+    answer-asked _ (a .self) (a .asked) _ (a .holding) (c .answer-to-abort .result) (not-false _ (passed .if1 .left)) (c .before .enum-told3 .given .1) (rw (tested .is-undecided .ensures) at (c .answer-to-abort .ensures))
 
 pub answer-spec : {M : Type 1} → statement M
 answer-spec =

@@ -9,7 +9,7 @@ of-requires : tie.Need-of-requires
 of-requires c κs = search needs
 
 returns : tie.Need-returns
-returns c = knows-none (c .before .args .s) (c .of .result) (c .of .ensures)
+returns c = knows-none _ (c .before .args .s) (c .of .result) (c .of .ensures)
 
 pub of-spec : {M : Type 1} → statement M
 of-spec = tie.close (tie.spec of-requires returns)

@@ -14,7 +14,7 @@ is-held-requires c κs = search needs
 returns : tie.Need-returns
 returns c =
     let a = c .before .before .args in
-    rw (c .is-held .ensures) (decided-stays (a .event) (a .progressing) (a .self) (c .before .decide .result) (c .before .decide .ensures))
+    rw (c .is-held .ensures) (decided-stays _ (a .event) (a .progressing) (a .self) (c .before .decide .result) (c .before .decide .ensures))
 
 pub stays-held-spec : {M : Type 1} → statement M
 stays-held-spec = tie.close (tie.spec decide-requires is-held-requires returns)

@@ -1,6 +1,7 @@
 -- By the decision: the range after the event, or perhaps after it, is what the helper ensures.
 -- Assumes nothing.
 use mathlib.Core.Path.{sym, _∙_}
+use Rattle.account.proofs.First.{first-ranged}
 use Rattle.account.proofs.Known.{knows-after, knows-perhaps}
 use borrow.Author.Needs.{needs}
 use Rattle.account.proofs.outcomes.Outcomes.with.Statement.{statement}
@@ -27,7 +28,7 @@ returns c =
     let asked = tested .before .before .before in
     let a = asked .before .before .args in
     λ s xs t g k.
-    knows-perhaps s xs (a .self) k t g (a .event) (a .decision) (c .before .perhaps .result) (asked .every .result) (asked .every .ensures)
+    knows-perhaps _ first-ranged s xs (a .self) k t g (a .event) (a .decision) (c .before .perhaps .result) (asked .every .result) (asked .every .ensures)
     (sym (tested .before .is-undecided .ensures) ∙ tested .if1 .taken) (c .before .perhaps .ensures)
 
 returns-2 : tie.Need-returns-2
@@ -36,7 +37,7 @@ returns-2 c =
     let asked = tested .before .before .before in
     let a = asked .before .before .args in
     λ s xs t g k.
-    knows-after s xs (a .self) k t g (a .event) (a .decision) (c .after .result) (asked .every .result) (asked .every .ensures)
+    knows-after _ first-ranged s xs (a .self) k t g (a .event) (a .decision) (c .after .result) (asked .every .result) (asked .every .ensures)
     (sym (tested .before .is-undecided .ensures) ∙ tested .if1 .left) (c .after .ensures)
 
 pub with-spec : {M : Type 1} → statement M
