@@ -101,7 +101,7 @@ fn if_opened(opened: bool, balance: u32) -> u32
     if opened { balance } else { 0 }
 }
 
-// The lower of two lowest balances, each of which counts where it says so; the second where neither does.
+// The lower of two lowest balances, each of which counts where it says so; the other one where neither does.
 fn lowest_of(counts: bool, one: u32, also: bool, other: u32) -> u32
     ensures { λ r. ⌜ r ≡ cond counts (cond also (min one other) one) other ⌝ }
 {

@@ -62,11 +62,11 @@ pub extern "C" fn nacozteya_line(entry: &[u8], line: &mut [u8], counts: &mut [u6
 }
 
 // Stores two counts in the first places, as many as there are.
-fn put_counts(counts: &mut [u64], first: usize, second: usize)
-    ensures { λ _. ⌜ now (counts .exit) ≡ sets (now (counts .entry)) 0 (first ∷ second ∷ []) ⌝ }
+fn put_counts(counts: &mut [u64], one: usize, other: usize)
+    ensures { λ _. ⌜ now (counts .exit) ≡ sets (now (counts .entry)) 0 (one ∷ other ∷ []) ⌝ }
 {
-    put_count(counts, 0, first);
-    put_count(counts, 1, second);
+    put_count(counts, 0, one);
+    put_count(counts, 1, other);
 }
 
 // Stores what is known of a state in the first places, as many as there are.

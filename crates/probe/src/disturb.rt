@@ -1,5 +1,6 @@
 // One field of the register, set to any value: frame 5.
 use crate::Answered;
+use crate::filed;
 use crate::page;
 use crate::page::Page;
 use crate::places;
@@ -131,7 +132,7 @@ fn slot_with(slot: Slot, field: u8, value: u32) -> Slot {
     let event = slot.event;
     match field {
         4 => with_heading(slot, value, filed),
-        5 => with_heading(slot, slot.transaction, Filed { second: value }),
+        5 => with_heading(slot, slot.transaction, filed::of(value)),
         6 => with_event(slot, Event::of(kind_of(value), event.amount())),
         7 => with_event(slot, Event::of(event.kind(), value)),
         _ => with_decision(slot, decision_of(value)),

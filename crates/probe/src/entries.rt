@@ -1,4 +1,5 @@
 // The entry reader, and an entry's line of text: frames 7 and 67.
+use crate::filed;
 use crate::messages;
 use crate::page;
 use crate::page::Page;
@@ -46,7 +47,7 @@ fn put_found(found: Entry, account: u16, page: &mut Page, at: usize) -> usize {
     let end = page::field(page, end, kind_of(told));
     let end = page::field(page, end, found.transaction);
     let end = page::field(page, end, account as u32);
-    let end = page::field(page, end, filed.second);
+    let end = filed::put(page, end, b' ', filed);
     put_told(told, page, end, b' ')
 }
 

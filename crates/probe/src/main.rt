@@ -2,6 +2,7 @@
 mod calls;
 mod disturb;
 mod entries;
+mod filed;
 mod messages;
 mod page;
 mod places;

@@ -1,8 +1,8 @@
 // The message reader and the message writer: frames 3 and 4.
+use crate::filed;
 use crate::page;
 use crate::page::Page;
 use events::Event;
-use filing::Filed;
 use layout::Writing;
 use message::Heading;
 use message::Message;
@@ -27,7 +27,7 @@ fn refusal_of(reading: Reading) -> u8 {
     }
 }
 
-// Puts a message's kind, transaction, account, second and amount.
+// Puts a message's kind, its heading and its amount.
 fn put_message(message: Message, page: &mut Page, at: usize) -> usize {
     match message {
         Message::Request(heading, event) => {
@@ -45,13 +45,13 @@ fn put_message(message: Message, page: &mut Page, at: usize) -> usize {
     }
 }
 
-// Puts a message's kind, transaction, account and second.
+// Puts a message's kind, transaction, account and what it files.
 fn put_heading(kind: u8, heading: Heading, page: &mut Page, at: usize) -> usize {
     let filed = heading.filed;
     let end = page::field(page, at, kind as u32);
     let end = page::field(page, end, heading.transaction);
     let end = page::field(page, end, heading.account as u32);
-    page::field(page, end, filed.second)
+    filed::put(page, end, b' ', filed)
 }
 
 // Frame 4: the message writer, with a buffer of that room.
@@ -70,9 +70,7 @@ pub(crate) fn write(payload: &[u8], page: &mut Page, at: usize) -> usize {
     let heading = Heading {
         transaction: layout::number4(payload, 1),
         account: layout::number2(payload, 5),
-        filed: Filed {
-            second: layout::number4(payload, 7),
-        },
+        filed: filed::read(payload, 7),
     };
     let message = message_of(kind, heading, layout::number4(payload, 11));
     let mut buffer = page::FILLED;

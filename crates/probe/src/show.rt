@@ -1,4 +1,5 @@
 // An account as it is stored, and whether it is in order: frames 6 and 64.
+use crate::filed;
 use crate::page;
 use crate::page::Page;
 use crate::places;
@@ -43,7 +44,7 @@ fn put_place(slot: Slot, place: usize, page: &mut Page, at: usize) -> usize {
     let decision = slot.decision;
     let end = page::count(page, at, place);
     let end = page::part(page, end, b'=', slot.transaction);
-    let end = page::part(page, end, b':', filed.second);
+    let end = filed::put(page, end, b':', filed);
     let end = page::event(page, end, b':', event);
     if decision.is_undecided() {
         page::word(page, end, b":u")

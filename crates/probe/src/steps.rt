@@ -1,6 +1,7 @@
 // The single steps of an account, by value: frame 68.
 use crate::Answered;
 use crate::entries;
+use crate::filed;
 use crate::messages;
 use crate::page;
 use crate::page::Page;
@@ -11,7 +12,6 @@ use account::Stepped;
 use events::Event;
 use filing::Entries;
 use filing::Entry;
-use filing::Filed;
 use register::Register;
 
 // Frame 68: one step of an account; the register goes on with the account that the step handed back.
@@ -40,9 +40,7 @@ pub(crate) fn step(register: Register, payload: &[u8], page: &mut Page, at: usiz
 // The step of that kind.
 fn step_of(account: Account, kind: u8, payload: &[u8]) -> Stepped {
     let transaction = layout::number4(payload, 3);
-    let filed = Filed {
-        second: layout::number4(payload, 7),
-    };
+    let filed = filed::read(payload, 7);
     let amount = layout::number4(payload, 11);
     match kind {
         5 => account.commit(transaction, filed),
@@ -87,6 +85,6 @@ fn put_entry(entry: Entry, place: usize, page: &mut Page, at: usize) -> usize {
     let end = page::count(page, at, place);
     let end = page::part(page, end, b'=', entries::kind_of(told));
     let end = page::part(page, end, b':', entry.transaction);
-    let end = page::part(page, end, b':', filed.second);
+    let end = filed::put(page, end, b':', filed);
     entries::put_told(told, page, end, b':')
 }

@@ -25,7 +25,7 @@ pub struct Served {
     pub written: usize,
 }
 
-// The beginning: the first line, and a second one where the input is too long, of which nothing is served.
+// The beginning: the first line, and one more where the input is too long, of which nothing is served.
 pub fn begin(input: &[u8], out: &mut [u8]) -> Served
     ensures { λ r. ⌜ (r ≡ beginOf (now (input .entry))) × (Put (beginText (now (input .entry))) 0 20 (now (out .entry)) (r .written) (now (out .exit))) ⌝ }
 {
