@@ -54,7 +54,7 @@ out false h = refl
 
 -- where `Fits` says which states are in order
 module _ (R : rule.Rule State Event ℕ) (Fits : State → Type 0) (fits : (s : State) → (R .fits s ≡ true) ↔ Fits s) where
-  order-in : (a : Account) → inOrderBy R a ≡ true → InOrder R Fits a
+  order-in : (a : Account) → inOrderBy R a ≡ true → InOrder R (R .progressLimit) (R .heldLimit) Fits a
   unfolding listsOf
   order-in a h =
       let c = clauses R a h in
@@ -78,7 +78,7 @@ module _ (R : rule.Rule State Event ℕ) (Fits : State → Type 0) (fits : (s : 
             ⊎-elim (λ l. inl (rw (length-map (events a) slotOf) at l)) (λ r. inr r) (k .stays (map slotOf behind) _ _ _ _ (ap (map slotOf) q));
       }
 
-  in-order : (a : Account) → InOrder R Fits a → inOrderBy R a ≡ true
+  in-order : (a : Account) → InOrder R (R .progressLimit) (R .heldLimit) Fits a → inOrderBy R a ≡ true
   unfolding listsOf
   in-order a h =
       clauses-order R a
@@ -111,10 +111,10 @@ module _ (R : rule.Rule State Event ℕ) (Fits : State → Type 0) (fits : (s : 
             });
       })
 
-  pub order-exactly : InOrderExactlyBy R Fits
+  pub order-exactly : InOrderExactlyBy R (R .progressLimit) (R .heldLimit) Fits
   order-exactly a = (order-in a, in-order a)
 
-  pub broken-clauses : BrokenClausesBy R Fits
+  pub broken-clauses : BrokenClausesBy R (R .progressLimit) (R .heldLimit) Fits
   broken-clauses a =
       let k = order-in a in
       record {

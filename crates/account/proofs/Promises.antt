@@ -91,7 +91,7 @@ module _ (t : ℕ) (row : List Slot) (count : ℕ) where
 
 -- so the rule's refusals are the tests behind the first
 first-test : (R : rule.Rule State Event ℕ) (a : Account) (m : rule.Message Filed Event)
-    → cond (not (inOrderBy R a)) (some 5) (rule-call.refusal R (listsOf a) m) ≡ firstOf (stepTestsBy R a m)
+    → cond (not (inOrderBy R a)) (some 5) (rule-call.refusal R (listsOf a) m) ≡ firstOf (stepTestsBy R (R .heldLimit) a m)
 unfolding listsOf
 first-test R a (rule.request t g e) =
     rw (stands-named t (a .progress) (a .progressing), stands-named t (a .held) (a .holding), length-map (take (a .holding) (a .held)) slotOf)
@@ -105,7 +105,7 @@ entries-list : (xs : List RuleEntry) → take (entriesOf xs .count) (entriesOf x
 unfolding entriesOf
 entries-list xs = first-filled entryOf blankEntry most xs
 
-pub step-promise : (R : rule.Rule State Event ℕ) → Ranged R → StepPromiseBy R
+pub step-promise : (R : rule.Rule State Event ℕ) → Ranged R → StepPromiseBy R (R .heldLimit)
 unfolding entriesOf takenAs
 step-promise R ranged a m =
     let called = rule-call.call R (listsOf a) m in

@@ -67,14 +67,14 @@ BalanceFits s = (s .balance ≤ 1_000_000) × ((s .life ≡ Opened → ⊥) → 
 
 -- the test of order is true exactly if each clause holds; and what breaks a clause is not in order (6)
 abbrev pub InOrderExactly : Type 0
-InOrderExactly = InOrderExactlyBy panel BalanceFits
+InOrderExactly = InOrderExactlyBy panel 8 8 BalanceFits
 
 abbrev pub BrokenClauses : Type 0
-BrokenClauses = BrokenClausesBy panel BalanceFits
+BrokenClauses = BrokenClausesBy panel 8 8 BalanceFits
 
 -- what the steps and the outcome question promise (10.1, 11.1 and 11.2)
 abbrev pub StepPromise : Type 0
-StepPromise = StepPromiseBy panel
+StepPromise = StepPromiseBy panel 8
 
 abbrev pub QuestionPromise : Type 0
 QuestionPromise = QuestionPromiseBy panel tablePanel

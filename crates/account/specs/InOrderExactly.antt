@@ -46,12 +46,12 @@ module _ (R : Rule State Event ℕ) where
   abbrev pub GuardSomewhere : State → List Slot → Event → Bool → Type 0
   GuardSomewhere s xs e b = (n : ℕ) × (n < many xs) × (R .guard e (after s xs n) ≡ b)
 
--- `Fits` says in plain words which states are in order
-module _ (R : Rule State Event ℕ) (Fits : State → Type 0) where
+-- where so many events may be in progress and so many requests held; `Fits` says in plain words which states are in order
+module _ (R : Rule State Event ℕ) (progressLimit heldLimit : ℕ) (Fits : State → Type 0) where
   pub record InOrder (a : Account) : Type 0 where
     -- the counts (6.1)
-    pub progressing : a .progressing ≤ R .progressLimit
-    pub holding : a .holding ≤ R .heldLimit
+    pub progressing : a .progressing ≤ progressLimit
+    pub holding : a .holding ≤ heldLimit
     -- and the state within their limits (6.1, 6.2),
     pub state : Fits (a .state)
     -- no transaction at two used places, in progress or held (6.4),
@@ -75,15 +75,15 @@ module _ (R : Rule State Event ℕ) (Fits : State → Type 0) where
     pub stays :
         (behind : List Slot) (x : Slot)
         → requests a ≡ x ∷ behind
-        → (R .progressLimit ≤ length (events a)) ⊎ (GuardSomewhere R (a .state) (events a) (x .event) true × GuardSomewhere R (a .state) (events a) (x .event) false)
+        → (progressLimit ≤ length (events a)) ⊎ (GuardSomewhere R (a .state) (events a) (x .event) true × GuardSomewhere R (a .state) (events a) (x .event) false)
 
   abbrev pub InOrderExactlyBy : Type 0
   InOrderExactlyBy = (a : Account) → (inOrderBy R a ≡ true) ↔ InOrder a
 
   -- each clause broken: the account is not in order
   pub record OutOfOrder (a : Account) : Type 0 where
-    pub progressing : R .progressLimit < a .progressing → inOrderBy R a ≡ false
-    pub holding : R .heldLimit < a .holding → inOrderBy R a ≡ false
+    pub progressing : progressLimit < a .progressing → inOrderBy R a ≡ false
+    pub holding : heldLimit < a .holding → inOrderBy R a ≡ false
     pub state : (Fits (a .state) → ⊥) → inOrderBy R a ≡ false
     pub same :
         (before between behind : List Slot) (x y : Slot)
@@ -102,7 +102,7 @@ module _ (R : Rule State Event ℕ) (Fits : State → Type 0) where
     -- a place is free, and the oldest held request would be accepted, or rejected
     pub decides :
         (b : Bool) (behind : List Slot) (x : Slot)
-        → requests a ≡ x ∷ behind → length (events a) < R .progressLimit
+        → requests a ≡ x ∷ behind → length (events a) < progressLimit
         → ((n : ℕ) → n < many (events a) → R .guard (x .event) (after R (a .state) (events a) n) ≡ b) → inOrderBy R a ≡ false
 
   abbrev pub BrokenClausesBy : Type 0

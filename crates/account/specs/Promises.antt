@@ -46,11 +46,12 @@ module _ (a : Account) where
   abbrev pub committedThere : ℕ → Bool
   committedThere t = standsCommitted t (a .progress) (a .progressing)
 
-module _ (R : rule.Rule State Event ℕ) where
+-- where so many requests may be held
+module _ (R : rule.Rule State Event ℕ) (heldLimit : ℕ) where
   -- a step: 5; of a request then 6 and 7, of a commit 8 to 10, of an abort 8 and 11
   abbrev pub stepTestsBy : Account → rule.Message Filed Event → List Test
   stepTestsBy a (rule.request t g e) =
-      test (not (inOrderBy R a)) 5 ∷ test (inProgress a t || onHold a t) 6 ∷ test (leb (R .heldLimit) (length (take (a .holding) (a .held)))) 7 ∷ []
+      test (not (inOrderBy R a)) 5 ∷ test (inProgress a t || onHold a t) 6 ∷ test (leb heldLimit (length (take (a .holding) (a .held)))) 7 ∷ []
   stepTestsBy a (rule.commit t g) =
       test (not (inOrderBy R a)) 5 ∷ test (not (inProgress a t || onHold a t)) 8 ∷ test (onHold a t) 9 ∷ test (committedThere a t) 10 ∷ []
   stepTestsBy a (rule.abort t g) =
