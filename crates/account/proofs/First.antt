@@ -2,6 +2,7 @@
 -- Assumes nothing.
 use Prim.Native.Nat.{ℕ}
 use mathlib.Core.Path.{_≡_, refl, sym}
+use mathlib.Core.Logic.{_↔_}
 use mathlib.Core.Bool.{Bool, true}
 use mathlib.Core.List.{List}
 use mathlib.Core.Option.{Option}
@@ -67,12 +68,15 @@ table-holds s a = record { panel′ = refl; tablePanel′ = refl; rows = events-
 pub outcomes-of-the-table : OutcomesOfTheTable
 outcomes-of-the-table = table.outcomes-of-the-table panel tablePanel (λ e s g. sym (effect-table e s g))
 
--- in order exactly
+-- the states in order in plain numbers, and in order exactly
+balance-fits : (s : State) → (panel .fits s ≡ true) ↔ BalanceFits s
+balance-fits s = events-table.table-holds progressLimit heldLimit s 0 .fields .fits
+
 pub order-exactly : InOrderExactly
-order-exactly = exactly.order-exactly panel BalanceFits (λ s. table-holds s 0 .rows .fields .fits)
+order-exactly = exactly.order-exactly panel BalanceFits balance-fits
 
 pub broken-clauses : BrokenClauses
-broken-clauses = exactly.broken-clauses panel BalanceFits (λ s. table-holds s 0 .rows .fields .fits)
+broken-clauses = exactly.broken-clauses panel BalanceFits balance-fits
 
 -- the steps, and the outcome question
 pub step-promise : StepPromise

@@ -63,7 +63,7 @@ accepted c = sym (c .before .is-accepted .ensures) ∙ c .if3 .taken
 free : (c : tie.Then3 Inv-loop μ-loop) →
     let test = c .before .before .before in
     test .before .before .before .before .before .loop .next .progressing < 8
-free c = c .before .before .before .before .decide .ensures .free (accepted c)
+free c = omega (arith, c .before .before .before .before .decide .ensures .free (accepted c))
 
 element-set-from-slot : tie.Need-element-set-from-slot Inv-loop μ-loop
 element-set-from-slot c = free c

@@ -11,6 +11,7 @@ use borrow.Author.Tests.{ltb-false}
 use Rattle.rule.proofs.Lists.{or-left, or-right}
 use Rattle.filing.specs.Slots.{places, blank}
 use Rattle.account.specs.Places.{used}
+use Rattle.account.specs.First.{progressLimit, heldLimit}
 use Rattle.account.specs.inside.First.{Knows}
 use Rattle.account.proofs.Places.{as-many, used-more, count-used}
 use Rattle.account.proofs.Known.{knows-few, knows-end}
@@ -59,11 +60,16 @@ rows start =
     let a = start .args .t1 in
     (as-many (a .progress) (start .good .0 .1 .1 .1 .0 .1 .0 .1), as-many (a .held) (start .good .0 .1 .1 .1 .1 .1 .0 .1 .0 .1))
 
--- and the counts are within them
+-- and the counts are within the limits, so within the places
+limits : (c : tie.Else1 Inv-loop μ-loop Inv-loop2 μ-loop2 Inv-loop3 μ-loop3 Inv-loop4 μ-loop4) → (c .before .before .before .args .t1 .progressing ≤ progressLimit) × (c .before .before .before .args .t1 .holding ≤ heldLimit)
+limits c =
+    let a = c .before .before .before .args .t1 in (
+      ltb-false progressLimit (a .progressing) (or-left _ (ltb heldLimit (a .holding)) (c .if1 .left)),
+      ltb-false heldLimit (a .holding) (or-right (ltb progressLimit (a .progressing)) _ (c .if1 .left)),
+    )
+
 counts : (c : tie.Else1 Inv-loop μ-loop Inv-loop2 μ-loop2 Inv-loop3 μ-loop3 Inv-loop4 μ-loop4) → (c .before .before .before .args .t1 .progressing ≤ places) × (c .before .before .before .args .t1 .holding ≤ places)
-counts c =
-    let a = c .before .before .before .args .t1 in
-    (ltb-false places (a .progressing) (or-left _ (ltb places (a .holding)) (c .if1 .left)), ltb-false places (a .holding) (or-right (ltb places (a .progressing)) _ (c .if1 .left)))
+counts c = (omega (arith, limits c .0), omega (arith, limits c .1))
 
 -- the way back from the requests' loop to the events' loop, and from there to the test of the counts
 abbrev events-loop : tie.At-loop3 Inv-loop μ-loop Inv-loop2 μ-loop2 Inv-loop3 μ-loop3 Inv-loop4 μ-loop4 → tie.At-loop Inv-loop μ-loop Inv-loop2 μ-loop2 Inv-loop3 μ-loop3 Inv-loop4 μ-loop4
@@ -424,7 +430,7 @@ returns-2 c =
     let v2 = blanks .before .loop2 in
     let v3 = requests .before .loop3 in
     let v4 = blanks-held .before .loop4 in
-    let few = counts (counted (events .before)) in
+    let few = limits (counted (events .before)) in
     let requests-passed : v3 .at ≡ a .holding = omega (arith, v3 .inv .within, requests .loop3-test .left) in
     judges-all _ a t (v1 .outcomes) (v1 .event) (v3 .request) (v3 .found) (v4 .in-order) (c .differ .result)
     (record {

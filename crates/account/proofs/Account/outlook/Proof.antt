@@ -36,7 +36,7 @@ in-order : (c : tie.Else1 Inv-loop μ-loop) → inOrderOf (c .before .before .ar
 in-order c = sym (c .before .in-order .ensures) ∙ not-false _ (c .if1 .left)
 
 few : (c : tie.Else1 Inv-loop μ-loop) → c .before .before .args .t1 .progressing ≤ places
-few c = clauses _ (c .before .before .args .t1) (in-order c) .progressing
+few c = omega (arith, clauses _ (c .before .before .args .t1) (in-order c) .progressing)
 
 abbrev start-of : tie.After-loop Inv-loop μ-loop → tie.Start Inv-loop μ-loop
 start-of c = c .before .before .before .before .before
