@@ -16,6 +16,7 @@ use Rattle.filing.specs.Entries.{entriesOf}
 use Rattle.account.specs.declared.Account.{Account}
 use Rattle.account.specs.declared.Outlook.the-variants as Outlook′
 use Rattle.account.specs.Places.{listsOf}
+use Rattle.account.specs.InOrder.{inOrderBy}
 use Rattle.account.specs.Steps.{stepBy, outlookBy}
 use Rattle.account.specs.Plain.{StepPlain, QuestionPlain, PlainHolds}
 
@@ -39,5 +40,5 @@ question-plain R a n =
     }
 
 pub plain-holds : PlainHolds
-unfolding listsOf
-plain-holds = record { lists = λ a. refl; step = step-plain; question = question-plain }
+unfolding listsOf inOrderBy
+plain-holds = record { lists = λ a. refl; order = λ R a. refl; step = step-plain; question = question-plain }

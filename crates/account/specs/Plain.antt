@@ -3,19 +3,22 @@
 -- Assumes nothing.
 use Prim.Native.Nat.{ℕ, _^_, _≤_, _<_}
 use mathlib.Core.Path.{_≡_}
-use mathlib.Core.Bool.{true, false}
+use mathlib.Core.Bool.{true, false, _&&_}
 use mathlib.Core.List.{List, map}
 use lib.Count.{ones}
-use lib.ListN.{take, replicate}
+use lib.Dec.{leb}
+use lib.ListN.{take, drop, replicate}
 use Rattle.rule.specs.Rule as rule
 use Rattle.rule.specs.Call as rule-call
+use Rattle.rule.specs.Lists.{every}
+use Rattle.rule.specs.InOrder.{isInOrder}
 use Rattle.rule.specs.Outcome.{undecidedOf, bit}
 use Rattle.rule.specs.Exact.{chosenState}
 use Rattle.events.specs.declared.Event.{Event}
 use Rattle.events.specs.declared.State.{State}
 use Rattle.filing.specs.declared.Filed.{Filed}
 use Rattle.filing.specs.declared.Told.the-variants.{Noted}
-use Rattle.filing.specs.Slots.{slotOf}
+use Rattle.filing.specs.Slots.{slotOf, isBlank}
 use Rattle.filing.specs.Entries.{RuleEntry, entriesOf}
 use Rattle.account.specs.declared.Account.{Account}
 use Rattle.account.specs.declared.Answer.the-variants as Answer′
@@ -31,6 +34,15 @@ ListsPlain =
     → listsOf a ≡ record { state = a .state; progress = map slotOf (take (a .progressing) (a .progress)); held = map slotOf (take (a .holding) (a .held)) }
 
 module _ (R : rule.Rule State Event ℕ) where
+  -- in order: the counts within their limits, every unused place blank, in both rows, and each clause of the rule on all that is used
+  abbrev pub OrderPlain : Account → Type 0
+  OrderPlain a =
+      inOrderBy R a
+      ≡ (leb (a .progressing) (R .progressLimit) && leb (a .holding) (R .heldLimit)
+      && every isBlank (drop (a .progressing) (a .progress))
+      && every isBlank (drop (a .holding) (a .held))
+      && isInOrder R (record { state = a .state; progress = map slotOf (take (a .progressing) (a .progress)); held = map slotOf (take (a .holding) (a .held)) }))
+
   -- a step: 5, and then the rule's answer; a refusal leaves the account and brings no entry
   pub record StepPlain (a : Account) (m : rule.Message Filed Event) : Type 0 where
     pub outOfOrder : inOrderBy R a ≡ false
@@ -59,5 +71,6 @@ module _ (R : rule.Rule State Event ℕ) where
 
 pub record PlainHolds : Type 0 where
   pub lists : ListsPlain
+  pub order : (R : rule.Rule State Event ℕ) (a : Account) → OrderPlain R a
   pub step : (R : rule.Rule State Event ℕ) (a : Account) (m : rule.Message Filed Event) → StepPlain R a m
   pub question : (R : rule.Rule State Event ℕ) (a : Account) (n : ℕ) → QuestionPlain R a n

@@ -126,6 +126,7 @@ pub plain-holds : PlainHolds
 unfolding wordsOfSlot wordsOfSlots wordsOf
 plain-holds =
     record {
+      sizes = record { lives = refl; decisions = refl; words = refl; places = refl; most = refl };
       place =
           λ t s a.
           record {

@@ -4,15 +4,15 @@
 use Prim.Native.Nat.{ℕ, _+_, _*_, _≤_, _<_, min}
 use mathlib.Core.Path.{_≡_}
 use mathlib.Core.Logic.{_⊎_}
-use mathlib.Core.List.{List, [], _∷_, _++_}
+use mathlib.Core.List.{List, [], _∷_, _++_, map}
 use lib.ListN.{length, getD, replicate}
 use Rattle.events.specs.declared.Event.the-variants.{Open, Withdraw, Deposit, Close}
 use Rattle.events.specs.declared.Life.the-variants.{New, Opened, Closed}
 use Rattle.filing.specs.declared.Decision.the-variants.{Undecided, Committed}
 use Rattle.filing.specs.declared.Slot.{Slot}
 use Rattle.account.specs.declared.Account.{Account}
-use Rattle.image.specs.Words.{wordsOfSlot, wordsOfSlots, wordsOf}
-use Rattle.image.specs.Reading.{accountFrom}
+use Rattle.image.specs.Words.{mostWord, lifeWord, decisionWord, filedWords, eventPlace, amountPlace, decisionPlace, placeWords, headWords, rowWords, accountWords, wordsOfSlot, wordsOfSlots, wordsOf}
+use Rattle.image.specs.Reading.{tooMany, accountFrom}
 use Rattle.image.specs.Images.{AreWords}
 
 -- a place: transaction, second, event, amount, decision
@@ -56,7 +56,16 @@ pub record Word : Type 0 where
   pub none : AreWords []
   pub more : (word : ℕ) (words : List ℕ) → word ≤ 4_294_967_295 → AreWords words → AreWords (word ∷ words)
 
+-- the words of a life; how many words there are, and where in a place they stand
+pub record SizesPlain : Type 0 where
+  pub lives : map lifeWord (New ∷ Opened ∷ Closed ∷ []) ≡ 0 ∷ 1 ∷ 2 ∷ []
+  pub decisions : map decisionWord (Undecided ∷ Committed ∷ []) ≡ 0 ∷ 1 ∷ []
+  pub words : headWords ∷ placeWords ∷ rowWords ∷ accountWords ∷ [] ≡ 4 ∷ 5 ∷ 40 ∷ 84 ∷ []
+  pub places : filedWords ∷ eventPlace ∷ amountPlace ∷ decisionPlace ∷ [] ≡ 1 ∷ 2 ∷ 3 ∷ 4 ∷ []
+  pub most : mostWord ∷ tooMany ∷ [] ≡ 4_294_967_295 ∷ 9 ∷ []
+
 pub record PlainHolds : Type 0 where
+  pub sizes : SizesPlain
   pub place : (t s a : ℕ) → PlacePlain t s a
   pub row : (x : Slot) (row : List Slot) → RowPlain x row
   pub account : (b n m : ℕ) (progress held : List Slot) → AccountPlain b n m progress held

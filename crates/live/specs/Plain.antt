@@ -24,7 +24,7 @@ use Rattle.register.specs.declared.Reply.the-variants.{Refused, Taken}
 use Rattle.register.specs.Register.{nowhere, ruleMessage}
 use Rattle.register.specs.Call.{calledBy}
 use Rattle.register.specs.Sequence.{Input}
-use Rattle.live.specs.Registers.{imageOf, registerOf}
+use Rattle.live.specs.Registers.{wordAt, registerWords, imageOf, registerOf}
 use Rattle.live.specs.Live.{liveBy, lookBy}
 use Rattle.live.specs.Exports.{exportedCall, exportedLook, exportedLine}
 use Rattle.live.specs.Keeping.{ownWords, imageAfterAll, liveExchanges}
@@ -33,6 +33,8 @@ use Rattle.live.specs.Keeping.{ownWords, imageAfterAll, liveExchanges}
 pub record RegisterPlain : Type 0 where
   pub sixteen : (words : List ℕ) → length (registerOf words .accounts) ≡ 16
   pub account : (words : List ℕ) (i : ℕ) → i < 16 → getD (registerOf words .accounts) i nowhere ≡ accountFrom words (i * 84)
+  pub begins : (i : ℕ) → wordAt i ≡ i * 84
+  pub words : registerWords ≡ 1_344
   pub none : imageOf (record { accounts = [] }) ≡ []
   pub more : (a : Account) (accounts : List Account) → imageOf (record { accounts = a ∷ accounts }) ≡ wordsOf a ++ imageOf (record { accounts = accounts })
   -- the words of an account are the 84 behind those of the accounts before it
@@ -89,6 +91,12 @@ pub record PlacesPlain (image buffer rest : List ℕ) (a b c n m : ℕ) : Type 0
   pub closed : exportedLook (Outlook′.State (record { life = Closed; balance = n }) m) (a ∷ b ∷ c ∷ rest) ≡ record { answer = 0; state = 2 ∷ n ∷ m ∷ rest }
   pub openedTwo : exportedLook (Outlook′.State (record { life = Opened; balance = n }) m) (a ∷ b ∷ []) ≡ record { answer = 0; state = 1 ∷ n ∷ [] }
   pub openedOne : exportedLook (Outlook′.State (record { life = Opened; balance = n }) m) (a ∷ []) ≡ record { answer = 0; state = 1 ∷ [] }
+  pub newTwo : exportedLook (Outlook′.State (record { life = New; balance = n }) m) (a ∷ b ∷ []) ≡ record { answer = 0; state = 0 ∷ n ∷ [] }
+  pub closedTwo : exportedLook (Outlook′.State (record { life = Closed; balance = n }) m) (a ∷ b ∷ []) ≡ record { answer = 0; state = 2 ∷ n ∷ [] }
+  pub newOne : exportedLook (Outlook′.State (record { life = New; balance = n }) m) (a ∷ []) ≡ record { answer = 0; state = 0 ∷ [] }
+  pub closedOne : exportedLook (Outlook′.State (record { life = Closed; balance = n }) m) (a ∷ []) ≡ record { answer = 0; state = 2 ∷ [] }
+  pub newNone : exportedLook (Outlook′.State (record { life = New; balance = n }) m) [] ≡ record { answer = 0; state = [] }
+  pub closedNone : exportedLook (Outlook′.State (record { life = Closed; balance = n }) m) [] ≡ record { answer = 0; state = [] }
   pub openedNone : exportedLook (Outlook′.State (record { life = Opened; balance = n }) m) [] ≡ record { answer = 0; state = [] }
   pub line : exportedLine (record { lined = record { entry = n; line = m }; buffer = buffer }) (a ∷ b ∷ rest) ≡ record { answer = m; line = buffer; counts = n ∷ m ∷ rest }
   pub lineOne : exportedLine (record { lined = record { entry = n; line = m }; buffer = buffer }) (a ∷ []) ≡ record { answer = m; line = buffer; counts = n ∷ [] }

@@ -40,6 +40,9 @@ steps-plain s input =
     record {
       begins = λ h. rw (le-ltb longestInput (length input) h) refl;
       tooLong = λ h. rw (lt-ltb longestInput (length input) h) refl;
+      begun = λ h. rw (le-ltb longestInput (length input) h) refl;
+      begunTooLong = λ h. rw (lt-ltb longestInput (length input) h) refl;
+      served = λ h k j. rw (lt-ltb (s .from) (length input) h, lt-ltb (s .met) longestInput k, lt-ltb (s .refused) longestInput j) refl;
       serves = λ h. rw (lt-ltb (s .from) (length input) h) refl;
       nothing = λ h. rw (le-ltb (s .from) (length input) h) refl;
       still = λ h. rw (le-ltb (s .from) (length input) h) refl;

@@ -3,16 +3,19 @@
 -- Assumes nothing.
 use Prim.Native.Nat.{ℕ, _+_, _*_, _-_, _/_, _%_, _^_, _≤_, _<_}
 use mathlib.Core.Path.{_≡_}
+use mathlib.Core.Bool.{cond}
 use mathlib.Core.List.{List, [], _∷_, _++_}
 use lib.ListN.{length, drop}
 use Rattle.filing.specs.declared.Entry.{Entry}
 use Rattle.layout.specs.declared.Writing.the-variants.{Written, Refused}
+use Rattle.register.specs.Run.{lengthAt, passedOf}
+use Rattle.register.specs.First.{freshRegister}
 use Rattle.text.specs.declared.program.Served.{Served}
 use Rattle.text.specs.Text.{decimal, lineOf, longestLine, writeLineOf}
 use Rattle.text.specs.Decimal.{valueFrom}
 use Rattle.text.specs.Quoted.{quoted}
 use Rattle.text.specs.Output.{longestInput, turnAt}
-use Rattle.text.specs.Program.{longestText, beginText, serveText, serveOf, finishText}
+use Rattle.text.specs.Program.{longestText, beginText, beginOf, serveText, serveOf, finishText}
 
 -- a number below 10 is its digit; any other has the digits of its tenth, and behind them the digit that is left: of every number of 4 bytes, and of any of ten digits
 pub record DecimalPlain (number : ℕ) : Type 0 where
@@ -34,7 +37,22 @@ pub record LineWritten (e : Entry) (account : ℕ) (buffer : List ℕ) : Type 0 
 pub record StepsPlain (s : Served) (input : List ℕ) : Type 0 where
   pub begins : length input ≤ 65_536 → beginText input ≡ quoted "register 1\n"
   pub tooLong : 65_536 < length input → beginText input ≡ quoted "register 1\ntoo long\n"
+  pub begun : length input ≤ 65_536 → beginOf input ≡ record { register = freshRegister; from = 0; met = 0; refused = 0; written = 11 }
+  pub begunTooLong : 65_536 < length input → beginOf input ≡ record { register = freshRegister; from = length input; met = 0; refused = 0; written = 20 }
   pub serves : s .from < length input → serveText s input ≡ turnAt (s .register) (drop (s .from) input) .text
+  -- what has been served then: after a refusal with 1 or 2 nothing is left, else the next message starts behind this one; it is met, and counts as refused where it is
+  pub served : s .from < length input → s .met < 65_536 → s .refused < 65_536
+      → let rest = drop (s .from) input in
+      let turn = turnAt (s .register) rest in
+      let passed = passedOf (turn .reply) (lengthAt rest) in
+      serveOf s input
+      ≡ record {
+        register = turn .register;
+        from = cond (passed .stops) (length input) (s .from + passed .consumed);
+        met = s .met + 1;
+        refused = s .refused + passed .refused;
+        written = length (turn .text);
+      }
   pub nothing : length input ≤ s .from → serveText s input ≡ []
   pub still : length input ≤ s .from → serveOf s input ≡ record { register = s .register; from = s .from; met = s .met; refused = s .refused; written = 0 }
   pub ends : length input ≤ 65_536 → finishText s input ≡ quoted "end " ++ (decimal (s .met) ++ (quoted " " ++ (decimal (s .refused) ++ quoted "\n")))
