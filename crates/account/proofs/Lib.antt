@@ -22,6 +22,7 @@ pub mod Ended
 pub mod Cases
 pub mod Answers
 pub mod Forms
+pub mod Plain
 pub mod First
 pub mod Kept
 pub mod Refused

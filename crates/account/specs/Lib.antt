@@ -6,6 +6,7 @@ pub mod Cases
 pub mod Promises
 pub mod Answers
 pub mod Forms
+pub mod Plain
 pub mod Table
 pub mod InOrderExactly
 pub mod InOrderCases

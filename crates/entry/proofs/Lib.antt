@@ -12,3 +12,4 @@ pub mod Vectors
 pub mod Plain
 pub mod Finding
 pub mod Forms
+pub mod Literal

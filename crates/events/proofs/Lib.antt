@@ -6,3 +6,4 @@ pub mod Answers
 pub mod Table
 pub mod Panel
 pub mod Plain
+pub mod Literal

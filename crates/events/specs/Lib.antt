@@ -5,3 +5,4 @@ pub mod Table
 pub mod Condition
 pub mod Range
 pub mod Glance
+pub mod Literal

@@ -7,3 +7,4 @@ pub mod WrittenBack
 pub mod OwnWords
 pub mod Images
 pub mod Vectors
+pub mod Plain

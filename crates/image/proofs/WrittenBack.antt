@@ -66,12 +66,12 @@ length-slotsFrom (suc n) words = ap suc (length-slotsFrom n (drop placeWords wor
 
 -- ---- an account
 
-record Parts (words : List ℕ) : Type 0 where
-  life : isLife (getD words 0 0) ≡ true
-  progress : areSlots places (drop headWords words) ≡ true
-  held : areSlots places (drop (headWords + rowWords) words) ≡ true
+pub record Parts (words : List ℕ) : Type 0 where
+  pub life : isLife (getD words 0 0) ≡ true
+  pub progress : areSlots places (drop headWords words) ≡ true
+  pub held : areSlots places (drop (headWords + rowWords) words) ≡ true
 
-parts : (words : List ℕ) → isAccount words ≡ true → Parts words
+pub parts : (words : List ℕ) → isAccount words ≡ true → Parts words
 unfolding isAccount
 parts words b =
     let life = isLife (getD words 0 0) in

@@ -9,3 +9,4 @@ pub mod Answers
 pub mod Plain
 pub mod Heading
 pub mod Forms
+pub mod Literal

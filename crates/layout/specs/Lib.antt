@@ -8,3 +8,4 @@ pub mod Inverse
 pub mod Plain
 pub mod Vectors
 pub mod Forms
+pub mod Literal

@@ -1,6 +1,7 @@
 pub mod Standing
 pub mod Finished
 pub mod Forms
+pub mod Plain
 pub mod RegisterImages
 pub mod Stored
 pub mod Keeping

@@ -6,5 +6,6 @@ pub mod First
 pub mod Images
 pub mod Keeping
 pub mod Forms
+pub mod Plain
 pub mod Helpers
 pub mod Vectors

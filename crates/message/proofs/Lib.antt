@@ -7,3 +7,4 @@ pub mod Refusals
 pub mod Vectors
 pub mod Plain
 pub mod Forms
+pub mod Literal

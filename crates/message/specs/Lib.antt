@@ -5,3 +5,4 @@ pub mod Plain
 pub mod Refusals
 pub mod Vectors
 pub mod Forms
+pub mod Literal

@@ -29,3 +29,4 @@ pub mod RunSeconds
 pub mod Demands
 pub mod Samples
 pub mod Forms
+pub mod Plain

@@ -16,4 +16,5 @@ pub mod RunSeconds
 pub mod Demands
 pub mod Samples
 pub mod Forms
+pub mod Plain
 pub mod Helpers

@@ -19,10 +19,10 @@ use Rattle.rule.specs.Exact.{numberOf, Choices, chosenState, guardIn, Nu
 use Rattle.rule.proofs.Lists.{either, every-map, some-map, every-number, number-every, some-number, no-number, number-none, fails-number}
 use Rattle.rule.proofs.Outcomes.{twice, outcomes-length}
 
-bit-zero : (n : ℕ) → bit n 0 ≡ eqb (n % 2) 1
+pub bit-zero : (n : ℕ) → bit n 0 ≡ eqb (n % 2) 1
 bit-zero n = let e : n / 1 ≡ n = omega arith in rw e
 
-bit-suc : (n i : ℕ) → bit n (suc i) ≡ bit (n / 2) i
+pub bit-suc : (n i : ℕ) → bit n (suc i) ≡ bit (n / 2) i
 bit-suc n i =
     let e : 1 + i ≡ suc i = omega arith in
     ap (λ (k : ℕ). eqb (k % 2) 1) (ap (λ (k : ℕ). n / 2 ^ k) (sym e) ∙ sym (shr-shr n 1 i))

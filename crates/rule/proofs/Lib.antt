@@ -22,3 +22,4 @@ pub mod Filed
 pub mod Refusals
 pub mod Written
 pub mod Says
+pub mod Literal

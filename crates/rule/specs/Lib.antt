@@ -18,3 +18,4 @@ pub mod Written
 pub mod Refusals
 pub mod Says
 pub mod Filed
+pub mod Literal

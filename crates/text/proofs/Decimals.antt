@@ -15,7 +15,7 @@ use Rattle.text.specs.Text.{decimalIn, lineOf}
 use Rattle.text.specs.Decimal.{valueFrom, Decimal, Decimals, LongestLineIs}
 use Rattle.entry.proofs.Booleans.{both}
 
-value-last : (sofar digit : ℕ) (xs : List ℕ) → valueFrom sofar (xs ++ (digit ∷ [])) ≡ valueFrom sofar xs * 10 + (digit - 48)
+pub value-last : (sofar digit : ℕ) (xs : List ℕ) → valueFrom sofar (xs ++ (digit ∷ [])) ≡ valueFrom sofar xs * 10 + (digit - 48)
 value-last sofar digit [] = refl
 value-last sofar digit (x ∷ xs) = value-last (sofar * 10 + (x - 48)) digit xs
 

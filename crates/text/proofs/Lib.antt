@@ -13,3 +13,4 @@ pub mod EntryLines
 pub mod TurnCalls
 pub mod Beside
 pub mod OutputCalls
+pub mod Plain

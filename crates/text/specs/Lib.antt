@@ -9,3 +9,4 @@ pub mod Program
 pub mod Turned
 pub mod Samples
 pub mod OutputCalls
+pub mod Plain

@@ -1,0 +1,98 @@
+-- The words in which entries are told, each said a second time in numbers and lists (docs/REGISTER.md, 9), and what the writer of a call's entries gives with each length of buffer: a word
+-- that stands in a statement cannot be changed with it.
+-- Assumes nothing.
+use Prim.Native.Nat.{ℕ, _+_, _*_, _/_, _%_, _≤_, _<_}
+use mathlib.Core.Path.{_≡_}
+use mathlib.Core.Logic.{_↔_}
+use mathlib.Core.Bool.{true, false}
+use mathlib.Core.List.{List, [], _∷_, _++_, map}
+use mathlib.Core.Option.{none, some}
+use lib.ListN.{length, getD, take, drop}
+use Rattle.events.specs.declared.Event.{Event}
+use Rattle.events.specs.declared.Event.the-variants.{Open, Withdraw, Deposit, Close}
+use Rattle.filing.specs.declared.Entry.{Entry}
+use Rattle.filing.specs.declared.Entries.{Entries}
+use Rattle.filing.specs.declared.Verdict.the-variants.{Accepted, Rejected, Held}
+use Rattle.filing.specs.declared.Told.the-variants.{Voted, Noted, Applied, Dropped}
+use Rattle.layout.specs.declared.Writing.the-variants.{Written, Refused}
+use Rattle.entry.specs.Bytes.{kindOf, thenNumbers, bytesOfEntry, bytesOfEntries, wholesOf, lengthOfTold, listOf}
+use Rattle.entry.specs.Answers.{longestCall, saidOfEntry, readOf, writeOf}
+use Rattle.entry.specs.Inverse.{Writable}
+use Rattle.entry.specs.Longest.{isApplied, isVote}
+use Rattle.entry.specs.Plain.{ofEachKind, eventBytes, kindLength, lengthIn, found, nothing, EventStands, AllWritable, lengthsIn, AllRead}
+use Rattle.entry.specs.Forms.{together}
+
+-- what an entry of each kind tells, in the order of the kinds
+pub record KindsLiteral (e : Event) (n : ℕ) : Type 0 where
+  pub kinds : map kindOf
+      (Voted e (record { verdict = Accepted; weighed = n }) ∷ Voted e (record { verdict = Rejected; weighed = n }) ∷ Voted e (record { verdict = Held; weighed = n }) ∷ Noted ∷ Applied e n ∷ Dropped e ∷ [])
+      ≡ 17 ∷ 18 ∷ 19 ∷ 20 ∷ 21 ∷ 22 ∷ []
+  pub each : ofEachKind e n
+      ≡ Voted e (record { verdict = Accepted; weighed = n }) ∷ Voted e (record { verdict = Rejected; weighed = n }) ∷ Voted e (record { verdict = Held; weighed = n }) ∷ Noted ∷ Applied e n ∷ Dropped e ∷ []
+  pub lengths : map lengthIn
+      (Voted e (record { verdict = Accepted; weighed = n }) ∷ Voted e (record { verdict = Rejected; weighed = n }) ∷ Voted e (record { verdict = Held; weighed = n }) ∷ Noted ∷ Applied e n ∷ Dropped e ∷ [])
+      ≡ 18 ∷ 18 ∷ 18 ∷ 11 ∷ 20 ∷ 16 ∷ []
+  pub byKind : map kindLength (17 ∷ 18 ∷ 19 ∷ 20 ∷ 21 ∷ 22 ∷ []) ≡ 18 ∷ 18 ∷ 18 ∷ 11 ∷ 20 ∷ 16 ∷ []
+  pub areApplied : map isApplied
+      (Voted e (record { verdict = Accepted; weighed = n }) ∷ Voted e (record { verdict = Rejected; weighed = n }) ∷ Voted e (record { verdict = Held; weighed = n }) ∷ Noted ∷ Applied e n ∷ Dropped e ∷ [])
+      ≡ false ∷ false ∷ false ∷ false ∷ true ∷ false ∷ []
+  pub areVotes : map isVote
+      (Voted e (record { verdict = Accepted; weighed = n }) ∷ Voted e (record { verdict = Rejected; weighed = n }) ∷ Voted e (record { verdict = Held; weighed = n }) ∷ Noted ∷ Applied e n ∷ Dropped e ∷ [])
+      ≡ true ∷ true ∷ true ∷ false ∷ false ∷ false ∷ []
+
+-- an event's bytes, and an event among the bytes of an entry: its kind at 11, its amount from 12 on
+pub record EventLiteral (a : ℕ) (bytes : List ℕ) : Type 0 where
+  pub opens : eventBytes (Open a) ≡ 1 ∷ a / 16_777_216 % 256 ∷ a / 65_536 % 256 ∷ a / 256 % 256 ∷ a % 256 ∷ []
+  pub withdraws : eventBytes (Withdraw a) ≡ 2 ∷ a / 16_777_216 % 256 ∷ a / 65_536 % 256 ∷ a / 256 % 256 ∷ a % 256 ∷ []
+  pub deposits : eventBytes (Deposit a) ≡ 3 ∷ a / 16_777_216 % 256 ∷ a / 65_536 % 256 ∷ a / 256 % 256 ∷ a % 256 ∷ []
+  pub closes : eventBytes Close ≡ 4 ∷ 0 ∷ 0 ∷ 0 ∷ 0 ∷ []
+  pub openStands : EventStands bytes (Open a) ↔ ((getD bytes 11 0 ≡ 1) × (getD bytes 12 0 * 16_777_216 + getD bytes 13 0 * 65_536 + getD bytes 14 0 * 256 + getD bytes 15 0 ≡ a))
+  pub withdrawStands : EventStands bytes (Withdraw a) ↔ ((getD bytes 11 0 ≡ 2) × (getD bytes 12 0 * 16_777_216 + getD bytes 13 0 * 65_536 + getD bytes 14 0 * 256 + getD bytes 15 0 ≡ a))
+  pub depositStands : EventStands bytes (Deposit a) ↔ ((getD bytes 11 0 ≡ 3) × (getD bytes 12 0 * 16_777_216 + getD bytes 13 0 * 65_536 + getD bytes 14 0 * 256 + getD bytes 15 0 ≡ a))
+  pub closeStands : EventStands bytes Close ↔ ((getD bytes 11 0 ≡ 4) × (getD bytes 12 0 * 16_777_216 + getD bytes 13 0 * 65_536 + getD bytes 14 0 * 256 + getD bytes 15 0 ≡ 0))
+
+-- what follows the heading, as numbers
+pub record ThenLiteral (a n : ℕ) : Type 0 where
+  pub vote′ : thenNumbers (Voted (Withdraw a) (record { verdict = Held; weighed = n })) ≡ 2 ∷ a ∷ n ∷ []
+  pub noted : thenNumbers Noted ≡ []
+  pub applied : thenNumbers (Applied (Deposit a) n) ≡ 3 ∷ a ∷ n ∷ []
+  pub dropped : thenNumbers (Dropped (Open a)) ≡ 1 ∷ a ∷ []
+  pub closed : thenNumbers (Dropped Close) ≡ 4 ∷ 0 ∷ []
+
+-- entries one after the other, however many
+pub record RowLiteral (account : ℕ) (e : Entry) (es : List Entry) (x : List ℕ) (xs : List (List ℕ)) (bytes : List ℕ) : Type 0 where
+  pub noneTogether : together [] ≡ []
+  pub moreTogether : together (x ∷ xs) ≡ x ++ together xs
+  pub noBytes : bytesOfEntries account [] ≡ []
+  pub moreBytes : bytesOfEntries account (e ∷ es) ≡ bytesOfEntry account e ++ bytesOfEntries account es
+  pub noLength : (wholesOf [] ≡ 0) × (lengthsIn [] ≡ 0)
+  pub moreLength : (wholesOf (e ∷ es) ≡ lengthOfTold (e .told) + wholesOf es) × (lengthsIn (e ∷ es) ≡ lengthIn (e .told) + lengthsIn es)
+  pub noneWritable : AllWritable account []
+  pub moreWritable : AllWritable account (e ∷ es) ↔ (Writable account e × AllWritable account es)
+  pub moreRead : AllRead account (e ∷ es) bytes ↔ ((saidOfEntry (readOf bytes) ≡ record { entry = some e; account = account; length′ = lengthIn (e .told) }) × AllRead account es (drop (lengthIn (e .told)) bytes))
+
+-- the answers of the reader, and the places that are used
+pub record AnswersLiteral (e : Entry) (account whole : ℕ) (entries : Entries) : Type 0 where
+  pub found′ : found e account whole ≡ record { entry = some e; account = account; length′ = whole }
+  pub nothing′ : nothing ≡ record { entry = none; account = 0; length′ = 0 }
+  pub used : listOf entries ≡ take (entries .count) (entries .at)
+  pub longest : longestCall ≡ 315
+
+-- the writer of a call's entries: 4 with fewer than 315 bytes, whatever the entries and the account are, and where the entries do not fit; else their bytes, how many they are, and the rest
+-- of the buffer as it was
+pub record WriterLiteral (entries : Entries) (account : ℕ) (buffer : List ℕ) : Type 0 where
+  pub short : length buffer < 315 → writeOf entries account buffer ≡ record { answer = Refused 4; buffer = buffer }
+  pub roomless :
+      let bytes = bytesOfEntries account (take (entries .count) (entries .at)) in
+      315 ≤ length buffer → length buffer < length bytes → writeOf entries account buffer ≡ record { answer = Refused 4; buffer = buffer }
+  pub written :
+      let bytes = bytesOfEntries account (take (entries .count) (entries .at)) in
+      315 ≤ length buffer → length bytes ≤ length buffer → writeOf entries account buffer ≡ record { answer = Written (length bytes); buffer = bytes ++ drop (length bytes) buffer }
+
+pub record LiteralHolds : Type 0 where
+  pub kinds : (e : Event) (n : ℕ) → KindsLiteral e n
+  pub event : (a : ℕ) (bytes : List ℕ) → EventLiteral a bytes
+  pub then′ : (a n : ℕ) → ThenLiteral a n
+  pub row : (account : ℕ) (e : Entry) (es : List Entry) (x : List ℕ) (xs : List (List ℕ)) (bytes : List ℕ) → RowLiteral account e es x xs bytes
+  pub answers : (e : Entry) (account whole : ℕ) (entries : Entries) → AnswersLiteral e account whole entries
+  pub writer : (entries : Entries) (account : ℕ) (buffer : List ℕ) → WriterLiteral entries account buffer

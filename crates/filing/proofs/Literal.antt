@@ -1,0 +1,36 @@
+-- By computing.
+-- Assumes nothing.
+use mathlib.Core.Path.{refl}
+use borrow.Author.Tests.{eqb-true, eq-eqb}
+use Rattle.filing.specs.Literal.{LiteralHolds}
+
+pub literal-holds : LiteralHolds
+literal-holds =
+    record {
+      blanks =
+          record {
+            eight = refl;
+            seventeen = refl;
+            filed = refl;
+            place = refl;
+            entry = refl;
+            isFiled = λ second. (eqb-true second 0, eq-eqb second 0);
+          };
+      both =
+          λ t n g e d.
+          record {
+            decisions = refl;
+            decisionsBack = refl;
+            verdicts = refl;
+            verdictsBack = refl;
+            undecided = refl;
+            committed = refl;
+            commits = refl;
+            accepts = refl;
+            rejects = refl;
+            holds = refl;
+            acceptsBack = refl;
+            rejectsBack = refl;
+            holdsBack = refl;
+          };
+    }
