@@ -37,6 +37,16 @@ literal-holds =
             depositStands = (λ s. s, λ s. s);
             closeStands = (λ s. s, λ s. s);
           };
+      stands =
+          λ bytes e n.
+          record {
+            accepted = (λ x. x, λ x. x);
+            rejected = (λ x. x, λ x. x);
+            held = (λ x. x, λ x. x);
+            noted = (λ x. x, λ x. x);
+            applied = (λ x. x, λ x. x);
+            dropped = (λ x. x, λ x. x);
+          };
       then′ = λ a n. record { vote′ = refl; noted = refl; applied = refl; dropped = refl; closed = refl };
       row =
           λ account e es x xs bytes.

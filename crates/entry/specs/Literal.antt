@@ -19,7 +19,7 @@ use Rattle.entry.specs.Bytes.{kindOf, thenNumbers, bytesOfEntry, bytesOf
 use Rattle.entry.specs.Answers.{longestCall, saidOfEntry, readOf, writeOf}
 use Rattle.entry.specs.Inverse.{Writable}
 use Rattle.entry.specs.Longest.{isApplied, isVote}
-use Rattle.entry.specs.Plain.{ofEachKind, eventBytes, kindLength, lengthIn, found, nothing, EventStands, AllWritable, lengthsIn, AllRead}
+use Rattle.entry.specs.Plain.{ofEachKind, eventBytes, kindLength, lengthIn, found, nothing, EventStands, Stands, AllWritable, lengthsIn, AllRead}
 use Rattle.entry.specs.Forms.{together}
 
 -- what an entry of each kind tells, in the order of the kinds
@@ -50,6 +50,16 @@ pub record EventLiteral (a : ℕ) (bytes : List ℕ) : Type 0 where
   pub withdrawStands : EventStands bytes (Withdraw a) ↔ ((getD bytes 11 0 ≡ 2) × (getD bytes 12 0 * 16_777_216 + getD bytes 13 0 * 65_536 + getD bytes 14 0 * 256 + getD bytes 15 0 ≡ a))
   pub depositStands : EventStands bytes (Deposit a) ↔ ((getD bytes 11 0 ≡ 3) × (getD bytes 12 0 * 16_777_216 + getD bytes 13 0 * 65_536 + getD bytes 14 0 * 256 + getD bytes 15 0 ≡ a))
   pub closeStands : EventStands bytes Close ↔ ((getD bytes 11 0 ≡ 4) × (getD bytes 12 0 * 16_777_216 + getD bytes 13 0 * 65_536 + getD bytes 14 0 * 256 + getD bytes 15 0 ≡ 0))
+
+-- what an entry tells that stands in bytes: its kind, its event, and the number from 16 on
+pub record StandsLiteral (bytes : List ℕ) (e : Event) (n : ℕ) : Type 0 where
+  pub accepted : Stands bytes (Voted e (record { verdict = Accepted; weighed = n })) ↔ ((getD bytes 0 0 ≡ 17) × EventStands bytes e × (getD bytes 16 0 * 256 + getD bytes 17 0 ≡ n))
+  pub rejected : Stands bytes (Voted e (record { verdict = Rejected; weighed = n })) ↔ ((getD bytes 0 0 ≡ 18) × EventStands bytes e × (getD bytes 16 0 * 256 + getD bytes 17 0 ≡ n))
+  pub held : Stands bytes (Voted e (record { verdict = Held; weighed = n })) ↔ ((getD bytes 0 0 ≡ 19) × EventStands bytes e × (getD bytes 16 0 * 256 + getD bytes 17 0 ≡ n))
+  pub noted : Stands bytes Noted ↔ (getD bytes 0 0 ≡ 20)
+  pub applied : Stands bytes (Applied e n)
+      ↔ ((getD bytes 0 0 ≡ 21) × EventStands bytes e × (getD bytes 16 0 * 16_777_216 + getD bytes 17 0 * 65_536 + getD bytes 18 0 * 256 + getD bytes 19 0 ≡ n))
+  pub dropped : Stands bytes (Dropped e) ↔ ((getD bytes 0 0 ≡ 22) × EventStands bytes e)
 
 -- what follows the heading, as numbers
 pub record ThenLiteral (a n : ℕ) : Type 0 where
@@ -92,6 +102,7 @@ pub record WriterLiteral (entries : Entries) (account : ℕ) (buffer : List ℕ)
 pub record LiteralHolds : Type 0 where
   pub kinds : (e : Event) (n : ℕ) → KindsLiteral e n
   pub event : (a : ℕ) (bytes : List ℕ) → EventLiteral a bytes
+  pub stands : (bytes : List ℕ) (e : Event) (n : ℕ) → StandsLiteral bytes e n
   pub then′ : (a n : ℕ) → ThenLiteral a n
   pub row : (account : ℕ) (e : Entry) (es : List Entry) (x : List ℕ) (xs : List (List ℕ)) (bytes : List ℕ) → RowLiteral account e es x xs bytes
   pub answers : (e : Entry) (account whole : ℕ) (entries : Entries) → AnswersLiteral e account whole entries

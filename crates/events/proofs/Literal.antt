@@ -48,6 +48,7 @@ literal-holds =
             afterClose = refl;
             perhaps = λ e. refl;
           };
+      occurring = λ states life. record { occurs = (λ x. x, λ x. x) };
       together = λ l h k j n m c d. record { both = refl; first = refl; second = refl };
     }
 

@@ -4,16 +4,20 @@
 use Prim.Native.Nat.{ℕ, _+_, _-_, min, max}
 use mathlib.Core.Path.{_≡_}
 use mathlib.Core.Bool.{Bool, true, false, _&&_, _||_, not}
-use mathlib.Core.List.{List, [], _∷_, map}
+use mathlib.Core.Logic.{_↔_}
+use mathlib.Core.List.{List, [], _∷_, _++_, map}
 use lib.Dec.{leb}
 use Rattle.rule.specs.Rule.{Slot, slot, undecided, committed}
 use Rattle.events.specs.declared.Event.{Event}
 use Rattle.events.specs.declared.Event.the-variants.{Open, Withdraw, Deposit, Close}
+use Rattle.events.specs.declared.Life.{Life}
 use Rattle.events.specs.declared.Life.the-variants.{New, Opened, Closed}
+use Rattle.events.specs.declared.State.{State}
 use Rattle.events.specs.declared.Range.{Range}
 use Rattle.events.specs.Events.{limit, isNew, isOpened, isClosed}
 use Rattle.events.specs.Kinds.{eventKind, amountOf, eventOf}
 use Rattle.events.specs.Table.{events}
+use Rattle.events.specs.Glance.{Occurs}
 use Rattle.events.specs.Range.{rangeOf, rangeOfOne, joined, everyIn, someIn, rangeAfter, rangePerhaps, rangeThrough}
 
 -- the four events by kind and amount; the lives; the limit
@@ -66,6 +70,10 @@ pub record JoinedLiteral (l h k j : ℕ) (n m c d : Bool) : Type 0 where
   pub first : joined (range l h n true c) (range k j m false d) ≡ record { lowest = l; highest = max h j; new = n || m; opened = true; closed = c || d }
   pub second : joined (range l h n false c) (range k j m true d) ≡ record { lowest = k; highest = max h j; new = n || m; opened = true; closed = c || d }
 
+-- a life that occurs among states: at some place
+pub record OccursMeans (states : List State) (life : Life) : Type 0 where
+  pub occurs : Occurs states life ↔ ((before : List State) × (s : State) × (behind : List State) × (states ≡ before ++ (s ∷ behind)) × (s .life ≡ life))
+
 -- through events in progress, one after the other
 pub record ThroughLiteral {G : Type 0} (t : ℕ) (g : G) (e : Event) (xs : List (Slot G Event)) (x : Range) : Type 0 where
   pub none : rangeThrough {G = G} [] x ≡ x
@@ -76,4 +84,5 @@ pub record LiteralHolds : Type 0 where
   pub event : (a : ℕ) → EventLiteral a
   pub one : (b : ℕ) → OneLiteral b
   pub row : (l h : ℕ) (n o c : Bool) (a : ℕ) → RangeLiteral l h n o c a
+  pub occurring : (states : List State) (life : Life) → OccursMeans states life
   pub together : (l h k j : ℕ) (n m c d : Bool) → JoinedLiteral l h k j n m c d

@@ -41,6 +41,8 @@ registers-plain =
       words = refl;
       none = refl;
       more = λ a accounts. refl;
+      kept = λ a accounts. (λ k. k, λ k. k);
+      noneKept = tt;
       own = own-words;
     }
 

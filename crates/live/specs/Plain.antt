@@ -3,6 +3,7 @@
 -- Assumes nothing.
 use Prim.Native.Nat.{ℕ, _+_, _*_, _≤_, _<_}
 use mathlib.Core.Path.{_≡_}
+use mathlib.Core.Logic.{_↔_}
 use mathlib.Core.List.{List, [], _∷_, _++_}
 use lib.ListN.{length, take, drop, getD}
 use Rattle.rule.specs.Rule.{Rule}
@@ -20,11 +21,13 @@ use Rattle.message.specs.Answers.{readOf}
 use Rattle.entry.specs.Bytes.{bytesOfEntries}
 use Rattle.image.specs.Words.{wordsOf, storedIn}
 use Rattle.image.specs.Reading.{accountFrom}
+use Rattle.image.specs.Images.{Kept}
 use Rattle.register.specs.declared.Reply.the-variants.{Refused, Taken}
 use Rattle.register.specs.Register.{nowhere, ruleMessage}
 use Rattle.register.specs.Call.{calledBy}
 use Rattle.register.specs.Sequence.{Input}
 use Rattle.live.specs.Registers.{wordAt, registerWords, imageOf, registerOf}
+use Rattle.live.specs.Images.{EachKept}
 use Rattle.live.specs.Live.{liveBy, lookBy}
 use Rattle.live.specs.Exports.{exportedCall, exportedLook, exportedLine}
 use Rattle.live.specs.Keeping.{ownWords, imageAfterAll, liveExchanges}
@@ -37,6 +40,8 @@ pub record RegisterPlain : Type 0 where
   pub words : registerWords ≡ 1_344
   pub none : imageOf (record { accounts = [] }) ≡ []
   pub more : (a : Account) (accounts : List Account) → imageOf (record { accounts = a ∷ accounts }) ≡ wordsOf a ++ imageOf (record { accounts = accounts })
+  pub kept : (a : Account) (accounts : List Account) → EachKept (a ∷ accounts) ↔ (Kept a × EachKept accounts)
+  pub noneKept : EachKept []
   -- the words of an account are the 84 behind those of the accounts before it
   pub own : (i : ℕ) (before words behind : List ℕ) → length before ≡ i * 84 → length words ≡ 84 → ownWords (before ++ (words ++ behind)) i ≡ words
 

@@ -73,6 +73,16 @@ literal-holds =
     record {
       kinds = λ h a. record { each = refl; kinds = refl; headings = refl; amounts = refl; lengths = refl; byKind = refl; taken′ = λ m whole. refl };
       heading = λ kind t₁ t₂ t₃ t₄ a₁ a₂ s₁ s₂ s₃ s₄ rest. refl;
+      stands =
+          λ bytes h a.
+          record {
+            opens = (λ x. x, λ x. x);
+            withdraws = (λ x. x, λ x. x);
+            deposits = (λ x. x, λ x. x);
+            closes = (λ x. x, λ x. x);
+            commits = (λ x. x, λ x. x);
+            aborts = (λ x. x, λ x. x);
+          };
       reader = reader-literal;
       writer = writer-literal;
     }

@@ -3,10 +3,10 @@
 -- Assumes nothing.
 use Prim.Native.Nat.{ℕ, _+_, _*_, _≤_, _<_}
 use mathlib.Core.Path.{_≡_}
-use mathlib.Core.Logic.{_⊎_}
+use mathlib.Core.Logic.{_↔_, _⊎_}
 use mathlib.Core.List.{List, [], _∷_, _++_, map}
 use mathlib.Core.Option.{none, some}
-use lib.ListN.{length, drop}
+use lib.ListN.{length, getD, drop}
 use Rattle.events.specs.declared.Event.the-variants.{Open, Withdraw, Deposit, Close}
 use Rattle.layout.specs.declared.Writing.the-variants.{Written, Refused}
 use Rattle.message.specs.declared.Heading.{Heading}
@@ -15,7 +15,7 @@ use Rattle.message.specs.declared.Message.the-variants.{Request, Commit,
 use Rattle.message.specs.declared.Reading.the-variants as Reading′
 use Rattle.message.specs.Bytes.{kindOf, headingOf, amountIn, bytesOfMessage, lengthOfMessage}
 use Rattle.message.specs.Answers.{readOf, writeOf}
-use Rattle.message.specs.Plain.{ofEachKind, lengthIn, taken, headingIn}
+use Rattle.message.specs.Plain.{ofEachKind, lengthIn, taken, headingIn, Stands}
 use Rattle.message.specs.Refusals.{kindLength}
 
 -- a message of each kind: its kind, its heading, its amount, its length
@@ -39,6 +39,18 @@ HeadingLiteral =
       filed = record { second = s₁ * 16_777_216 + s₂ * 65_536 + s₃ * 256 + s₄ };
     }
 
+-- a message that stands in bytes: its kind, its heading, and its amount from 11 on
+pub record StandsLiteral (bytes : List ℕ) (h : Heading) (a : ℕ) : Type 0 where
+  pub opens : Stands bytes (Request h (Open a))
+      ↔ ((getD bytes 0 0 ≡ 1) × (headingIn bytes ≡ h) × (getD bytes 11 0 * 16_777_216 + getD bytes 12 0 * 65_536 + getD bytes 13 0 * 256 + getD bytes 14 0 ≡ a))
+  pub withdraws : Stands bytes (Request h (Withdraw a))
+      ↔ ((getD bytes 0 0 ≡ 2) × (headingIn bytes ≡ h) × (getD bytes 11 0 * 16_777_216 + getD bytes 12 0 * 65_536 + getD bytes 13 0 * 256 + getD bytes 14 0 ≡ a))
+  pub deposits : Stands bytes (Request h (Deposit a))
+      ↔ ((getD bytes 0 0 ≡ 3) × (headingIn bytes ≡ h) × (getD bytes 11 0 * 16_777_216 + getD bytes 12 0 * 65_536 + getD bytes 13 0 * 256 + getD bytes 14 0 ≡ a))
+  pub closes : Stands bytes (Request h Close) ↔ ((getD bytes 0 0 ≡ 4) × (headingIn bytes ≡ h))
+  pub commits : Stands bytes (Commit h) ↔ ((getD bytes 0 0 ≡ 5) × (headingIn bytes ≡ h))
+  pub aborts : Stands bytes (Abort h) ↔ ((getD bytes 0 0 ≡ 6) × (headingIn bytes ≡ h))
+
 -- the reader's refusals: no byte; a kind that is none, however few bytes follow; too few bytes, whatever they are; an account above 15 in a whole message
 pub record ReaderLiteral (kind : ℕ) (rest : List ℕ) : Type 0 where
   pub empty : readOf [] ≡ Reading′.Refused 1
@@ -58,5 +70,6 @@ pub record WriterLiteral (m : Message) (buffer : List ℕ) : Type 0 where
 pub record LiteralHolds : Type 0 where
   pub kinds : (h : Heading) (a : ℕ) → KindsLiteral h a
   pub heading : HeadingLiteral
+  pub stands : (bytes : List ℕ) (h : Heading) (a : ℕ) → StandsLiteral bytes h a
   pub reader : (kind : ℕ) (rest : List ℕ) → ReaderLiteral kind rest
   pub writer : (m : Message) (buffer : List ℕ) → WriterLiteral m buffer

@@ -23,8 +23,8 @@ use Rattle.entry.proofs.CallFits.{listed}
 use Rattle.register.specs.declared.Register.{Register}
 use Rattle.register.specs.Register.{nowhere, freshBy, sentBy, askedBy}
 use Rattle.register.specs.Call.{afterMessage, calledBy}
-use Rattle.register.specs.Sequence.{Exchange, entriesFrom}
-use Rattle.register.specs.Plain.{CallPlain, SendPlain, AskedPlain, AccountsPlain, NumbersPlain, EntriesPlain, PlainHolds}
+use Rattle.register.specs.Sequence.{Input, Exchange, entriesFrom}
+use Rattle.register.specs.Plain.{CallPlain, SendPlain, AskedPlain, AccountsPlain, NumbersPlain, EntriesPlain, StringsPlain, PlainHolds}
 use Rattle.register.proofs.ReadAs.{read-as, account-read}
 use Rattle.register.proofs.ReadBack.{value-back}
 
@@ -90,9 +90,19 @@ entries-plain most bytes x =
       writtenOfRefused = λ n e. rw e refl;
     }
 
+strings-plain : (x : Input) (xs : List Input) (y : Exchange) (ys : List Exchange) → StringsPlain x xs y ys
+strings-plain x xs y ys =
+    record {
+      strings = (λ s. s, λ s. s);
+      noStrings = tt;
+      each = (λ s. s, λ s. s);
+      only = λ consumed written e h. rw e at (h (rw e refl));
+    }
+
 pub plain-holds : PlainHolds
 plain-holds =
     record {
+      byteStrings = strings-plain;
       call = call-plain;
       send = send-plain;
       asked = asked-plain;

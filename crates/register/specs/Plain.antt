@@ -3,6 +3,7 @@
 -- Assumes nothing.
 use Prim.Native.Nat.{ℕ, suc, _+_, _*_, _≤_, _<_}
 use mathlib.Core.Path.{_≡_}
+use mathlib.Core.Logic.{_↔_}
 use mathlib.Core.Bool.{true, false, not, _&&_}
 use mathlib.Core.List.{List, [], _∷_, _++_, map}
 use mathlib.Core.Option.{none, some}
@@ -41,7 +42,7 @@ use Rattle.register.specs.declared.Reply.the-variants.{Refused, Taken}
 use Rattle.register.specs.Register.{nowhere, accountAt, withAccount, ruleMessage, sentBy, askedBy}
 use Rattle.register.specs.Call.{calledBy}
 use Rattle.register.specs.Refusals.{transactionIn, accountIn, lengthBy, standingAt, progressIn, heldIn, isInProgress, isHeld, isCommitted, undecidedIn, answeredAs}
-use Rattle.register.specs.Sequence.{Exchange, ruleEntry, entriesFrom, entriesIn, answerIn, writtenIn}
+use Rattle.register.specs.Sequence.{Input, Exchange, ByteStrings, ruleEntry, entriesFrom, entriesIn, answerIn, writtenIn, OnlyEntries, EachOnlyEntries}
 use Rattle.register.specs.Run.{lengthAt, numbersOf}
 use Rattle.register.specs.First.{freshRegister}
 
@@ -150,7 +151,16 @@ pub record EntriesPlain (most : ℕ) (bytes : List ℕ) (x : Exchange) : Type 0 
   pub writtenOfTaken : (consumed written : ℕ) → x .reply ≡ Taken consumed written → writtenIn x ≡ take written (x .buffer)
   pub writtenOfRefused : (n : ℕ) → x .reply ≡ Refused n → writtenIn x ≡ []
 
+-- byte strings and the entries of exchanges, one after the other; and of each exchange that is taken every byte that was written is an entry's
+pub record StringsPlain (x : Input) (xs : List Input) (y : Exchange) (ys : List Exchange) : Type 0 where
+  pub strings : ByteStrings (x ∷ xs) ↔ (((i : ℕ) → getD (x .message) i 0 < 256) × ByteStrings xs)
+  pub noStrings : ByteStrings []
+  pub each : EachOnlyEntries (y ∷ ys) ↔ (OnlyEntries y × EachOnlyEntries ys)
+  pub only : (consumed written : ℕ) → y .reply ≡ Taken consumed written
+      → OnlyEntries y → take written (y .buffer) ≡ bytesOfEntries (accountIn (y .message)) (map entryOf (entriesIn (take written (y .buffer))))
+
 pub record PlainHolds : Type 0 where
+  pub byteStrings : (x : Input) (xs : List Input) (y : Exchange) (ys : List Exchange) → StringsPlain x xs y ys
   pub call : (R : rule.Rule State Event ℕ) (r : Register) (bytes buffer : List ℕ) → CallPlain R r bytes buffer
   pub send : (R : rule.Rule State Event ℕ) (r : Register) (m : Message) → SendPlain R r m
   pub asked : (R : rule.Rule State Event ℕ) (r : Register) (i n : ℕ) → AskedPlain R r i n

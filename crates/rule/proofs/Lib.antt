@@ -23,3 +23,4 @@ pub mod Refusals
 pub mod Written
 pub mod Says
 pub mod Literal
+pub mod Meaning

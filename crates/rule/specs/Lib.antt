@@ -19,3 +19,4 @@ pub mod Refusals
 pub mod Says
 pub mod Filed
 pub mod Literal
+pub mod Meaning
