@@ -26,6 +26,7 @@ use Rattle.account.specs.declared.Account.{Account}
 use Rattle.account.specs.declared.outcomes.Outcomes.{Outcomes}
 use Rattle.account.specs.First.{panel}
 use Rattle.account.specs.declared.Answer.the-variants as Answer′
+use Rattle.account.specs.declared.Stepped.{Stepped}
 use Rattle.account.specs.Places.{RuleAccount, used, accountOf}
 use Rattle.account.specs.inside.Taken.{takenAs, listed, Drains}
 use Rattle.account.specs.inside.Known.{Knows, Decides}
@@ -212,3 +213,9 @@ drained-idle self entries none x written lists decisions e g =
         → takenAs (record { account = listed (x .state) (x .progress) held; entries = written }) ≡ takenAs (after written (drain panel (x .state) (x .progress) held))
     idle [] h = ap (λ (es : List RuleEntry). takenAs (record { account = listed (x .state) (x .progress) []; entries = es })) (sym (append-nil written))
     idle (z ∷ held) h = absurd (omega arith)
+
+-- what is drained is taken
+pub drained-taken : (self : Account) (entries : Entries) (r : Stepped) → Drains self entries r
+    → Drains self entries (record { account = r .account; entries = r .entries; answer = Answer′.Taken })
+unfolding takenAs
+drained-taken self entries r drains x written lists decisions e g = rw (drains x written lists decisions e g)
