@@ -21,6 +21,7 @@ use Rattle.filing.specs.Slots.{places, blank, isBlank, slotOf}
 use Rattle.account.specs.declared.Account.{Account}
 use Rattle.account.specs.Places.{used, listsOf}
 use Rattle.account.specs.InOrder.{inOrderBy}
+use Rattle.account.specs.declared.judging.Judged.{Judged}
 use Rattle.account.specs.declared.outcomes.Outcomes.{Outcomes}
 use Rattle.account.specs.First.{panel, inOrderOf}
 use Rattle.account.specs.inside.Known.{Knows}
@@ -118,24 +119,29 @@ module _ (R : rule.Rule State Event ℕ) (a : Account) where
     judged-order : (all && guards && differ) ≡ inOrderBy R a
     judged-order = same-test (all && guards && differ) (inOrderBy R a) holds asked
 
-  -- counts beyond the places are not in order
-  beyond : R .progressLimit ≤ places → R .heldLimit ≤ places → (ltb places (a .progressing) || ltb places (a .holding)) ≡ true → inOrderBy R a ≡ true → ⊥
-  beyond most mostHeld h k =
-      let c = ordered.clauses R a k in
-      false≢true (sym (or-neither (ltb places (a .progressing)) (ltb places (a .holding)) (le-ltb places (a .progressing) (omega arith)) (le-ltb places (a .holding) (omega arith))) ∙ h)
+-- counts beyond the places are not in order,
+module _ (a : Account) where
+  pub beyond : (ltb places (a .progressing) || ltb places (a .holding)) ≡ true → inOrderOf a ≡ true → ⊥
+  beyond h k =
+      let c = ordered.clauses panel a k in
+      false≢true (sym (or-neither (ltb places (a .progressing)) (ltb places (a .holding)) (le-ltb places (a .progressing) (omega (arith, c .progressing))) (le-ltb places (a .holding) (omega (arith, c .holding)))) ∙ h)
 
--- what is found of an account whose counts are beyond its places,
-module _ (a : Account) (t : ℕ) (outcomes : Outcomes) where
-  pub judges-beyond : (ltb places (a .progressing) || ltb places (a .holding)) ≡ true
-      → Judges a t (record { outcomes = outcomes; slot = blank; event = places; request = places; in_order = false })
-  judges-beyond h =
-      let no = beyond panel a (omega arith) (omega arith) h in
+  -- nor is a place that is not used and not blank
+  pub marked-progress : (first : ℕ) → first ≡ a .progressing → every isBlank (drop first (a .progress)) ≡ false → inOrderOf a ≡ true → ⊥
+  marked-progress first e h k = false≢true (sym h ∙ ap (λ (n : ℕ). every isBlank (drop n (a .progress))) e ∙ ordered.clauses panel a k .blanks)
+
+  pub marked-held : (first : ℕ) → first ≡ a .holding → every isBlank (drop first (a .held)) ≡ false → inOrderOf a ≡ true → ⊥
+  marked-held first e h k = false≢true (sym h ∙ ap (λ (n : ℕ). every isBlank (drop n (a .held))) e ∙ ordered.clauses panel a k .blanksHeld)
+
+  -- what is found of such an account,
+  pub judges-not : (t : ℕ) (r : Judged) → r .in_order ≡ false → (inOrderOf a ≡ true → ⊥) → Judges a t r
+  judges-not t r e never =
       record {
-        ordered = same-test false (inOrderOf a) (λ e. absurd (false≢true e)) (λ e. absurd (no e));
-        knows = λ e. absurd (no e);
-        event = λ e. absurd (no e);
-        request = λ e. absurd (no e);
-        slot = λ e. absurd (no e);
+        ordered = e ∙ same-test false (inOrderOf a) (λ z. absurd (false≢true z)) (λ z. absurd (never z));
+        knows = λ z. absurd (never z);
+        event = λ z. absurd (never z);
+        request = λ z. absurd (never z);
+        slot = λ z. absurd (never z);
       }
 
 -- and of any other, past all its places
