@@ -21,6 +21,7 @@ use Rattle.filing.specs.Slots.{places, blank, isBlank, slotOf}
 use Rattle.account.specs.declared.Account.{Account}
 use Rattle.account.specs.Places.{used, listsOf}
 use Rattle.account.specs.InOrder.{inOrderBy}
+use Rattle.account.specs.declared.judging.Judged.{Judged}
 use Rattle.account.specs.declared.outcomes.Outcomes.{Outcomes}
 use Rattle.account.specs.inside.Known.{KnowsBy}
 use Rattle.account.specs.inside.Judged.{allDiffer, JudgesBy}
@@ -117,8 +118,8 @@ module _ (R : rule.Rule State Event ℕ) (a : Account) where
     judged-order : (all && guards && differ) ≡ inOrderBy R a
     judged-order = same-test (all && guards && differ) (inOrderBy R a) holds asked
 
-  -- counts beyond the limits are not in order
-  beyond : (ltb (R .progressLimit) (a .progressing) || ltb (R .heldLimit) (a .holding)) ≡ true → inOrderBy R a ≡ true → ⊥
+  -- counts beyond the limits are not in order,
+  pub beyond : (ltb (R .progressLimit) (a .progressing) || ltb (R .heldLimit) (a .holding)) ≡ true → inOrderBy R a ≡ true → ⊥
   beyond h k =
       let c = ordered.clauses R a k in
       false≢true
@@ -126,18 +127,22 @@ module _ (R : rule.Rule State Event ℕ) (a : Account) where
       (or-neither (ltb (R .progressLimit) (a .progressing)) (ltb (R .heldLimit) (a .holding)) (le-ltb (R .progressLimit) (a .progressing) (c .progressing)) (le-ltb (R .heldLimit) (a .holding) (c .holding)))
       ∙ h)
 
--- what is found of an account whose counts are beyond the limits,
-module _ (R : rule.Rule State Event ℕ) (a : Account) (t : ℕ) (outcomes : Outcomes) where
-  pub judges-beyond : (ltb (R .progressLimit) (a .progressing) || ltb (R .heldLimit) (a .holding)) ≡ true
-      → JudgesBy R a t (record { outcomes = outcomes; slot = blank; event = places; request = places; in_order = false })
-  judges-beyond h =
-      let no = beyond R a h in
+  -- nor is a place that is not used and not blank
+  pub marked-progress : (first : ℕ) → first ≡ a .progressing → every isBlank (drop first (a .progress)) ≡ false → inOrderBy R a ≡ true → ⊥
+  marked-progress first e h k = false≢true (sym h ∙ ap (λ (n : ℕ). every isBlank (drop n (a .progress))) e ∙ ordered.clauses R a k .blanks)
+
+  pub marked-held : (first : ℕ) → first ≡ a .holding → every isBlank (drop first (a .held)) ≡ false → inOrderBy R a ≡ true → ⊥
+  marked-held first e h k = false≢true (sym h ∙ ap (λ (n : ℕ). every isBlank (drop n (a .held))) e ∙ ordered.clauses R a k .blanksHeld)
+
+  -- what is found of such an account,
+  pub judges-not : (t : ℕ) (r : Judged) → r .in_order ≡ false → (inOrderBy R a ≡ true → ⊥) → JudgesBy R a t r
+  judges-not t r e never =
       record {
-        ordered = same-test false (inOrderBy R a) (λ e. absurd (false≢true e)) (λ e. absurd (no e));
-        knows = λ e. absurd (no e);
-        event = λ e. absurd (no e);
-        request = λ e. absurd (no e);
-        slot = λ e. absurd (no e);
+        ordered = e ∙ same-test false (inOrderBy R a) (λ z. absurd (false≢true z)) (λ z. absurd (never z));
+        knows = λ z. absurd (never z);
+        event = λ z. absurd (never z);
+        request = λ z. absurd (never z);
+        slot = λ z. absurd (never z);
       }
 
 -- and of any other, past all its places

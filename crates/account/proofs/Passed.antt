@@ -35,10 +35,10 @@ pub record Noted (before : List ℕ) (row : List Slot) (at count : ℕ) (transac
   pub both : length transactions ≡ bothRows
   pub noted : take count transactions ≡ before ++ map transactionIn (take at row)
 
--- the unused places of a row before this one: from here on it is blank exactly if it is from the first of them on
-pub record BlanksPassed (row : List Slot) (before : Bool) (first : ℕ) (ordered : Bool) (at : ℕ) : Type 0 where
+-- the unused places of a row before this one are blank: the row is blank from the first of them on exactly if it is from here on
+pub record BlanksPassed (row : List Slot) (first at : ℕ) : Type 0 where
   pub within : at ≤ places
-  pub rest : (ordered && every isBlank (drop at row)) ≡ (before && every isBlank (drop first row))
+  pub rest : every isBlank (drop at row) ≡ every isBlank (drop first row)
 
 module _ (R : rule.Rule State Event ℕ) (a : Account) (t : ℕ) where
   -- the events in progress before this place
@@ -80,23 +80,25 @@ and-assoc : (p q r : Bool) → (p && q && r) ≡ (p && (q && r))
 and-assoc true q r = refl
 and-assoc false q r = refl
 
-pub blanks-more : (row : List Slot) (before : Bool) (first : ℕ) (ordered here : Bool) (at : ℕ) → at < places → length row ≡ places → here ≡ isBlank (getD row at blank)
-    → BlanksPassed row before first ordered at → BlanksPassed row before first (ordered && here) (at + 1)
-blanks-more row before first ordered here at h many e k =
-    record {
-      within = omega arith;
-      rest =
-          and-assoc ordered here (every isBlank (drop (at + 1) row))
-          ∙ ap (λ (b : Bool). ordered && (b && every isBlank (drop (at + 1) row))) e
-          ∙ ap (λ (l : List Slot). ordered && every isBlank l) (sym (drop-next row at blank (omega arith)))
-          ∙ k .rest;
-    }
+module _ (row : List Slot) (first at : ℕ) (h : at < places) (many : length row ≡ places) (k : BlanksPassed row first at) where
+  behind : (b : Bool) → isBlank (getD row at blank) ≡ b → (b && every isBlank (drop (at + 1) row)) ≡ every isBlank (drop first row)
+  behind b e =
+      ap (λ (c : Bool). c && every isBlank (drop (at + 1) row)) (sym e) ∙ ap (every isBlank) (sym (drop-next row at blank (omega arith))) ∙ k .rest
 
--- and past the last place all of them are
-pub blanks-end : (row : List Slot) (before : Bool) (first count : ℕ) (ordered : Bool) (at : ℕ) → first ≡ count → places ≤ at → length row ≡ places → BlanksPassed row before first ordered at
-    → ordered ≡ (before && every isBlank (drop count row))
-blanks-end row before first count ordered at e h many k =
-    sym (and-true ordered) ∙ ap (λ (l : List Slot). ordered && every isBlank l) (sym (drop-of-length-le row {i = at} (omega arith))) ∙ k .rest
+  pub blanks-more : isBlank (getD row at blank) ≡ true → BlanksPassed row first (at + 1)
+  blanks-more e = record { within = omega arith; rest = behind true e }
+
+  -- or none at all
+  pub blanks-broken : isBlank (getD row at blank) ≡ false → every isBlank (drop first row) ≡ false
+  blanks-broken e = sym (behind false e)
+
+-- and past the last place all of them are, so that this clause takes nothing away from those before it
+pub blanks-end : (row : List Slot) (first count at : ℕ) → first ≡ count → places ≤ at → length row ≡ places → BlanksPassed row first at
+    → (before : Bool) → before ≡ (before && every isBlank (drop count row))
+blanks-end row first count at e h many k before =
+    sym (and-true before)
+    ∙ ap (λ (l : List Slot). before && every isBlank l) (sym (drop-of-length-le row {i = at} (omega arith)))
+    ∙ ap (λ (b : Bool). before && b) (k .rest)
     ∙ ap (λ (n : ℕ). before && every isBlank (drop n row)) e
 
 -- a test of the rule's slot is one of the place's own decision

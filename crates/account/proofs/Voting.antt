@@ -26,6 +26,7 @@ use Rattle.filing.specs.Entries.{RuleEntry, isAccepted, isHeld, weighingOf, ent
 use Rattle.account.specs.declared.Account.{Account}
 use Rattle.account.specs.declared.outcomes.Outcomes.{Outcomes}
 use Rattle.account.specs.declared.Answer.the-variants as Answer′
+use Rattle.account.specs.declared.Stepped.{Stepped}
 use Rattle.account.specs.Places.{RuleAccount, used, accountOf}
 use Rattle.account.specs.inside.Taken.{takenAs, listed, DrainsBy}
 use Rattle.account.specs.inside.Known.{KnowsBy, DecidesBy}
@@ -214,3 +215,9 @@ module _ (R : rule.Rule State Event ℕ) where
           → takenAs (record { account = listed (x .state) (x .progress) held; entries = written }) ≡ takenAs (after written (drain R (x .state) (x .progress) held))
       idle [] h = ap (λ (es : List RuleEntry). takenAs (record { account = listed (x .state) (x .progress) []; entries = es })) (sym (append-nil written))
       idle (z ∷ held) h = absurd (omega arith)
+
+  -- what is drained is taken
+  pub drained-taken : (self : Account) (entries : Entries) (r : Stepped) → DrainsBy R self entries r
+      → DrainsBy R self entries (record { account = r .account; entries = r .entries; answer = Answer′.Taken })
+  unfolding takenAs
+  drained-taken self entries r drains x written lists decisions e g = rw (drains x written lists decisions e g)

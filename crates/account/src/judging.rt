@@ -1,8 +1,10 @@
 // Whether an account is in order, clause by clause (docs/REGISTER.md, 6), and what is found on the way: the outcomes of the events in progress, and where a transaction stands.
 use crate::Account;
 use crate::outcomes::Outcomes;
+use events::State;
 use filing::Slot;
 ghost use mathlib.Core.Path.{_≡_};
+ghost use mathlib.Core.Bool.{false};
 ghost use Prim.Native.Nat.{_≤_};
 ghost use lib.ListN.{length, take};
 ghost use Rattle.account.specs.First.{inOrderOf};
@@ -31,6 +33,7 @@ impl Account {
     }
 
     // Judges the account, and looks for a transaction. The loops stand in this body, and each event in progress is looked at once: handing a row to a helper costs a copy of it.
+    // At an unused place that is not blank it stops, so that the compiler does not carry a test through these loops.
     pub(crate) fn judge(self, transaction: u32) -> Judged
         ensures { λ r. ⌜ Judges self transaction r ⌝ }
     {
@@ -42,13 +45,7 @@ impl Account {
         let mut request = Account::PLACES;
         let mut found = Slot::BLANK;
         if (Account::PROGRESS < progressing) | (Account::HELD < holding) {
-            return Judged {
-                outcomes,
-                slot: found,
-                event,
-                request,
-                in_order: false,
-            };
+            return disordered(outcomes, found, event, request);
         }
         let mut in_order = state.fits();
         let mut transactions = [0; Account::BOTH];
@@ -68,7 +65,9 @@ impl Account {
         }
         while at < Account::PLACES {
             let slot = self.progress[at];
-            in_order = in_order & slot.is_blank();
+            if !slot.is_blank() {
+                return disordered(outcomes, found, event, request);
+            }
             at += 1;
         }
         at = 0;
@@ -88,7 +87,9 @@ impl Account {
         }
         while at < Account::PLACES {
             let slot = self.held[at];
-            in_order = in_order & slot.is_blank();
+            if !slot.is_blank() {
+                return disordered(outcomes, found, event, request);
+            }
             at += 1;
         }
         in_order = in_order & outcomes.guarded & differ(&transactions, progressing + holding);
@@ -99,6 +100,19 @@ impl Account {
             request,
             in_order,
         }
+    }
+}
+
+// What was found so far of an account that is not in order: nothing counts but that.
+fn disordered(outcomes: Outcomes, slot: Slot, event: usize, request: usize) -> Judged
+    ensures { λ r. ⌜ r .in_order ≡ false ⌝ }
+{
+    Judged {
+        outcomes,
+        slot,
+        event,
+        request,
+        in_order: false,
     }
 }
 

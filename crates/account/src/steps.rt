@@ -177,7 +177,11 @@ impl Account {
         next.state = state;
         next.progressing = self.progressing - ended;
         if 0 < next.holding {
-            return next.drain(entries);
+            let drained = next.drain(entries);
+            let rest = drained.account;
+            let written = drained.entries;
+            next = rest;
+            entries = written;
         }
         Stepped {
             account: next,

@@ -3,7 +3,7 @@ ghost use mathlib.Core.Path.{_≡_};
 ghost use Prim.Native.Nat.{_≤_, min};
 ghost use lib.Dec.{leb};
 ghost use lib.Seq.{sets};
-ghost use Rattle.filing.specs.Entries.{most};
+ghost use Rattle.filing.specs.Entries.{most, onlyEntry};
 ghost use Rattle.entry.specs.Bytes.{bytesOfEntry, lengthOfTold, wholesOf, listOf};
 ghost use Rattle.entry.specs.Answers.{writeOf};
 use crate::kinds;
@@ -30,6 +30,16 @@ pub fn write_entries(entries: Entries, account: u16, buffer: &mut [u8]) -> Writi
         i += 1;
     }
     Writing::Written(at)
+}
+
+// Writes an entry alone, as the only one of a call of that account, to the beginning of a buffer: the places that it leaves blank are not handed on.
+pub fn write_entry(entry: Entry, account: u16, buffer: &mut [u8]) -> Writing
+    ensures { λ r. ⌜ (r ≡ writeOf (onlyEntry entry) account (now (buffer .entry)) .answer) × (now (buffer .exit) ≡ writeOf (onlyEntry entry) account (now (buffer .entry)) .buffer) ⌝ }
+{
+    if buffer.len() < crate::LONGEST_CALL {
+        return Writing::Refused(4);
+    }
+    Writing::Written(put_entry(buffer, 0, account, entry))
 }
 
 // No entry is longer, whatever its kind: a number has 4 bytes at most.

@@ -100,7 +100,7 @@ impl Slot {
         let filed = self.filed;
         let event = self.event;
         let decision = self.decision;
-        (self.transaction == 0) & filed.is_blank() & event.is_blank() & decision.is_undecided()
+        (self.transaction == 0) && filed.is_blank() && event.is_blank() && decision.is_undecided()
     }
 
     // The place, committed.

@@ -3,6 +3,7 @@ pub mod Stores
 pub mod Numbers
 pub mod Fields
 pub mod Shapes
+pub mod Rows
 pub mod Tables
 pub mod Reading
 pub mod Answers

@@ -67,10 +67,16 @@ pub fn put_numbers(buffer: &mut [u8], at: usize, widths: [u8; FIELDS], numbers: 
     ensures { λ _. ⌜ now (buffer .exit) ≡ sets (now (buffer .entry)) at (written (map bytesIn widths) numbers) ⌝ }
 {
     if at < buffer.len() {
+        if LONGEST_ROW <= buffer.len() - at {
+            put_row(buffer, at, widths, numbers);
+            return;
+        }
         let mut to = at;
         let mut i = 0;
         while i < FIELDS {
-            to += put(buffer, to, widths[i], numbers[i]);
+            let bytes = bytes_in(widths[i]);
+            put_bytes(buffer, to, bytes, numbers[i]);
+            to += bytes;
             i += 1;
         }
     }
@@ -140,8 +146,25 @@ fn bytes_in(width: u8) -> usize
     }
 }
 
-// Stores a number of that width from `at` on, and answers how many bytes it has.
+// No row is longer: a number has 4 bytes at most.
+const LONGEST_ROW: usize = 4 * FIELDS;
+
+// Stores a row of numbers where there is room for the longest: with no look at the buffer's end, the compiler makes the loop one step a number.
+fn put_row(buffer: &mut [u8], at: usize, widths: [u8; FIELDS], numbers: [u32; FIELDS])
+    requires { ⌜ at + 40 ≤ length (now buffer) ⌝ }
+    ensures { λ _. ⌜ now (buffer .exit) ≡ sets (now (buffer .entry)) at (written (map bytesIn widths) numbers) ⌝ }
+{
+    let mut to = at;
+    let mut i = 0;
+    while i < FIELDS {
+        to += put(buffer, to, widths[i], numbers[i]);
+        i += 1;
+    }
+}
+
+// Stores a number of that width from `at` on, where there is room for 4 bytes, and answers how many bytes it has.
 fn put(buffer: &mut [u8], at: usize, width: u8, number: u32) -> usize
+    requires { ⌜ at + 4 ≤ length (now buffer) ⌝ }
     ensures { λ r. ⌜ (r ≡ bytesIn width) × (r ≤ 4) × (now (buffer .exit) ≡ sets (now (buffer .entry)) at (bytesOf (bytesIn width) number)) ⌝ }
 {
     match width {
@@ -155,24 +178,10 @@ fn put(buffer: &mut [u8], at: usize, width: u8, number: u32) -> usize
             2
         }
         _ => {
-            put4(buffer, at, number);
+            put_four(buffer, at, number);
             4
         }
     }
-}
-
-// Stores a number of 4 bytes from `at` on, in one step where there is room for all four.
-fn put4(buffer: &mut [u8], at: usize, number: u32)
-    ensures { λ _. ⌜ now (buffer .exit) ≡ sets (now (buffer .entry)) at (bytesOf 4 number) ⌝ }
-{
-    if buffer.len() <= at {
-        return;
-    }
-    if 3 < buffer.len() - at {
-        put_four(buffer, at, number);
-        return;
-    }
-    put_bytes(buffer, at, 4, number);
 }
 
 // Stores the four bytes of a number.

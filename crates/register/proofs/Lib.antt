@@ -23,6 +23,7 @@ pub mod WholeRuns
 pub mod Alike
 pub mod Turned
 pub mod Writes
+pub mod Votes
 pub mod Accounts
 pub mod RunCalls
 pub mod RunSeconds

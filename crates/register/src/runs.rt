@@ -4,10 +4,12 @@ use crate::Reply;
 use crate::numbers;
 use account::Answer;
 use filing::Entries;
+use filing::Entry;
 use layout::Writing;
 use message::Message;
 use message::Reading;
 ghost use mathlib.Core.Path.{_≡_};
+ghost use Rattle.filing.specs.Entries.{onlyEntry};
 ghost use Rattle.register.specs.declared.Reply.the-variants.{Refused};
 ghost use Rattle.register.specs.First.{runOf};
 ghost use Rattle.register.specs.Run.{replyNumber, passedOf, one, added};
@@ -63,13 +65,9 @@ pub fn run(messages: &[u8], entries: &mut [u8]) -> Ran
                 let account = accounts[at];
                 let stepped = account.request(heading.transaction, filed, event);
                 let answer = stepped.answer;
-                let reply = file(
-                    answer,
-                    stepped.entries,
-                    heading.account,
-                    whole,
-                    &mut entries[to..],
-                );
+                let written = stepped.entries;
+                let vote = written.at[0];
+                let reply = file_vote(answer, vote, heading.account, whole, &mut entries[to..]);
                 let passed = passed_by(reply, whole);
                 if passed.refused == 0 {
                     let next = stepped.account;
@@ -144,6 +142,21 @@ fn file(answer: Answer, entries: Entries, account: u16, consumed: usize, buffer:
         return Reply::Refused(numbers::refusal_of_step(answer));
     };
     let writing = entry::write_entries(entries, account, buffer);
+    let Writing::Written(written) = writing else {
+        return Reply::Refused(4);
+    };
+    Reply::Taken(consumed, written)
+}
+
+// The same of a request, whose vote is its only entry: it is handed on without the places that it leaves blank.
+fn file_vote(answer: Answer, vote: Entry, account: u16, consumed: usize, buffer: &mut [u8]) -> Reply
+    requires { ⌜ Fitting (onlyEntry vote) account (now buffer) ⌝ }
+    ensures { λ r. ⌜ (r ≡ filedOf answer (onlyEntry vote) account consumed (now (buffer .entry)) .reply) × (now (buffer .exit) ≡ filedOf answer (onlyEntry vote) account consumed (now (buffer .entry)) .buffer) ⌝ }
+{
+    let Answer::Taken = answer else {
+        return Reply::Refused(numbers::refusal_of_step(answer));
+    };
+    let writing = entry::write_entry(vote, account, buffer);
     let Writing::Written(written) = writing else {
         return Reply::Refused(4);
     };

@@ -15,8 +15,8 @@ put-bytes-requires c κs = search needs
 put-bytes-requires-2 : tie.Need-put-bytes-requires-2
 put-bytes-requires-2 c κs = search needs
 
-put4-requires : tie.Need-put4-requires
-put4-requires c κs = search needs
+put-four-requires : tie.Need-put-four-requires
+put-four-requires c κs = search needs
 
 returns : tie.Need-returns
 unfolding bytesOf
@@ -43,9 +43,9 @@ same-length-3 c = search needs
 
 returns-4 : tie.Need-returns-4
 returns-4 c =
-    let at-put4 = c .before .before in
-    let start = at-put4 .before .before .before .before in
-    rw (four-bytes (start .args .width) (omega arith) (omega arith) (omega arith)) (refl, lit≤ tt, at-put4 .put4 .ensures)
+    let at-put-four = c .before .before in
+    let start = at-put-four .before .before .before .before in
+    rw (four-bytes (start .args .width) (omega arith) (omega arith) (omega arith)) (refl, lit≤ tt, at-put-four .put-four .ensures)
 
 pub put-spec : {M : Type 1} → statement M
 put-spec =
@@ -53,7 +53,7 @@ put-spec =
     (tie.spec
     put-bytes-requires
     put-bytes-requires-2
-    put4-requires
+    put-four-requires
     returns
     same-length
     returns-2

@@ -2,12 +2,12 @@
 -- Assumes nothing.
 use Prim.Native.Nat.{_-_, _<_, _≤_}
 use native.Mathlib.Omega.{arith}
-use mathlib.Core.Path.{_≡_, refl}
+use mathlib.Core.Path.{_≡_, refl, sym, _∙_}
 use mathlib.Core.Logic.{⊎-elim}
 use lib.Dec.{ltb}
 use lib.ListN.{length, getD}
 use borrow.Author.Needs.{needs}
-use borrow.Author.Tests.{ltb-false}
+use borrow.Author.Tests.{ltb-false, not-true, not-false}
 use Rattle.rule.proofs.Lists.{or-left, or-right}
 use Rattle.filing.specs.Slots.{places, blank}
 use Rattle.account.specs.Places.{used}
@@ -17,8 +17,8 @@ use Rattle.account.proofs.Places.{as-many, used-more, count-used}
 use Rattle.account.proofs.Known.{knows-few, knows-end}
 use Rattle.account.proofs.Sought.{sought-here, sought-else}
 use Rattle.account.proofs.First.{EventsPassed, RequestsPassed}
-use Rattle.account.proofs.Passed.{BlanksPassed, events-none, events-more, events-end, blanks-more, blanks-end, requests-none, requests-more, requests-end}
-use Rattle.account.proofs.Concluded.{judges-beyond, judges-all}
+use Rattle.account.proofs.Passed.{BlanksPassed, events-none, events-more, events-end, blanks-more, blanks-broken, blanks-end, requests-none, requests-more, requests-end}
+use Rattle.account.proofs.Concluded.{beyond, marked-progress, marked-held, judges-not, judges-all}
 use Rattle.account.proofs.Account.judge.Statement.{statement}
 use Rattle.account.proofs.Account.judge.Tie as tie
 
@@ -31,11 +31,11 @@ abbrev μ-loop : tie.MeasureT-loop
     self .progressing - at
 
 abbrev Inv-loop2 : tie.InvT-loop2
-Inv-loop2 transaction self progressing holding outcomes event request found in-order₀ transactions at₀ in-order at =
-    BlanksPassed (self .progress) in-order₀ at₀ in-order at
+Inv-loop2 transaction self progressing holding outcomes event request found in-order transactions at₀ at =
+    BlanksPassed (self .progress) at₀ at
 
 abbrev μ-loop2 : tie.MeasureT-loop2
-μ-loop2 transaction self progressing holding outcomes event request found in-order₀ transactions at₀ in-order at =
+μ-loop2 transaction self progressing holding outcomes event request found in-order transactions at₀ at =
     places - at
 
 abbrev Inv-loop3 : tie.InvT-loop3
@@ -47,11 +47,11 @@ abbrev μ-loop3 : tie.MeasureT-loop3
     self .holding - at
 
 abbrev Inv-loop4 : tie.InvT-loop4
-Inv-loop4 transaction self progressing holding outcomes event request found in-order₀ transactions at₀ in-order at =
-    BlanksPassed (self .held) in-order₀ at₀ in-order at
+Inv-loop4 transaction self progressing holding outcomes event request found in-order transactions at₀ at =
+    BlanksPassed (self .held) at₀ at
 
 abbrev μ-loop4 : tie.MeasureT-loop4
-μ-loop4 transaction self progressing holding outcomes event request found in-order₀ transactions at₀ in-order at =
+μ-loop4 transaction self progressing holding outcomes event request found in-order transactions at₀ at =
     places - at
 
 -- the rows have all their places,
@@ -96,8 +96,14 @@ of-requires :
     tie.Need-of-requires Inv-loop μ-loop Inv-loop2 μ-loop2 Inv-loop3 μ-loop3 Inv-loop4 μ-loop4
 of-requires c κs = search needs
 
+disordered-requires : tie.Need-disordered-requires Inv-loop μ-loop Inv-loop2 μ-loop2 Inv-loop3 μ-loop3 Inv-loop4 μ-loop4
+disordered-requires c κs = search needs
+
 returns : tie.Need-returns Inv-loop μ-loop Inv-loop2 μ-loop2 Inv-loop3 μ-loop3 Inv-loop4 μ-loop4
-returns c = let start = c .before .before .before in judges-beyond _ (start .args .t1) (start .args .transaction) (c .before .of .result) (c .if1 .taken)
+returns c =
+    let start = c .before .before .before .before in
+    let a = start .args .t1 in
+    judges-not _ a (start .args .transaction) (c .disordered .result) (c .disordered .ensures) (beyond _ a (c .before .if1 .taken))
 
 fits-requires :
     tie.Need-fits-requires Inv-loop μ-loop Inv-loop2 μ-loop2 Inv-loop3 μ-loop3 Inv-loop4 μ-loop4
@@ -232,13 +238,28 @@ loop2-less :
     tie.Need-loop2-less Inv-loop μ-loop Inv-loop2 μ-loop2 Inv-loop3 μ-loop3 Inv-loop4 μ-loop4
 loop2-less c = omega arith
 
-loop2-again :
-    tie.Need-loop2-again Inv-loop μ-loop Inv-loop2 μ-loop2 Inv-loop3 μ-loop3 Inv-loop4 μ-loop4
-loop2-again c =
-    let turn = c .before .before .before in
-    let start = counted (turn .before .before) .before .before .before in
+disordered-requires-2 : tie.Need-disordered-requires-2 Inv-loop μ-loop Inv-loop2 μ-loop2 Inv-loop3 μ-loop3 Inv-loop4 μ-loop4
+disordered-requires-2 c κs = search needs
+
+returns-2 : tie.Need-returns-2 Inv-loop μ-loop Inv-loop2 μ-loop2 Inv-loop3 μ-loop3 Inv-loop4 μ-loop4
+returns-2 c =
+    let looked = c .before .before in
+    let turn = looked .before .before .before in
+    let events = turn .before .before in
+    let start = counted events .before .before .before in
+    let a = start .args .t1 in
     let v = turn .loop2 in
-    blanks-more (start .args .t1 .progress) _ _ (v .in-order) (c .is-blank .result) (v .at) (omega arith) (rows start .0) (c .is-blank .ensures) (v .inv)
+    let broken = blanks-broken (a .progress) (events .loop .at) (v .at) (omega arith) (rows start .0) (v .inv) (sym (looked .is-blank .ensures) ∙ not-true _ (c .before .if3 .taken)) in
+    judges-not _ a (start .args .transaction) (c .disordered2 .result) (c .disordered2 .ensures) (marked-progress _ a (events .loop .at) (events-passed (turn .before)) broken)
+
+loop2-again : tie.Need-loop2-again Inv-loop μ-loop Inv-loop2 μ-loop2 Inv-loop3 μ-loop3 Inv-loop4 μ-loop4
+loop2-again c =
+    let looked = c .before in
+    let turn = looked .before .before .before in
+    let events = turn .before .before in
+    let start = counted events .before .before .before in
+    let v = turn .loop2 in
+    blanks-more (start .args .t1 .progress) (events .loop .at) (v .at) (omega arith) (rows start .0) (v .inv) (sym (looked .is-blank .ensures) ∙ not-false _ (c .if3 .left))
 
 loop3-holds :
     tie.Need-loop3-holds Inv-loop μ-loop Inv-loop2 μ-loop2 Inv-loop3 μ-loop3 Inv-loop4 μ-loop4
@@ -246,7 +267,7 @@ loop3-holds c =
     let walked = c .before .before .before in
     let start = counted walked .before .before .before in
     let v = walked .loop in
-    requests-none _ (start .args .t1) (start .args .transaction) (v .outcomes .guarded) (v .found) (c .before .loop2 .in-order) (v .transactions) (v .inv .1 .listed .both)
+    requests-none _ (start .args .t1) (start .args .transaction) (v .outcomes .guarded) (v .found) (v .in-order) (v .transactions) (v .inv .1 .listed .both)
 
 mul-slot-3 :
     tie.Need-mul-slot-3 Inv-loop μ-loop Inv-loop2 μ-loop2 Inv-loop3 μ-loop3 Inv-loop4 μ-loop4
@@ -348,12 +369,12 @@ loop3-again c =
     let less = inside .loop3-test .taken in
     let few = counts passed in
     let room : v .at < length (a .held) = omega (arith, rows start .1, few .1) in
-    let here = sought-here t (a .held) (w .found) (v .at) (v .request) (v .found) room (v .inv .sought) (c .if3 .request) (c .if3 .found) (omega (arith, few .1)) in
-    let else = sought-else t (a .held) (w .found) (v .at) (v .request) (v .found) room (v .inv .sought) (c .if3 .request) (c .if3 .found) in
-    let sought = ⊎-elim (λ l. here (l .0 .taken) (l .1) (l .2)) (λ r. else (r .0 .left) (r .1) (r .2)) (c .if3 .came) in
+    let here = sought-here t (a .held) (w .found) (v .at) (v .request) (v .found) room (v .inv .sought) (c .if4 .request) (c .if4 .found) (omega (arith, few .1)) in
+    let else = sought-else t (a .held) (w .found) (v .at) (v .request) (v .found) room (v .inv .sought) (c .if4 .request) (c .if4 .found) in
+    let sought = ⊎-elim (λ l. here (l .0 .taken) (l .1) (l .2)) (λ r. else (r .0 .left) (r .1) (r .2)) (c .if4 .came) in
     let asked = c .before .before in
     requests-more _ a t (w .outcomes .guarded) (w .found) _ (w .transactions) (v .request) (v .found) (v .in-order) (v .transactions) (v .at) less (few .0) (few .1) (rows start .1) (v .inv)
-    (c .if3 .request) (c .if3 .found) sought (asked .before .is-undecided2 .result) (asked .stays-held .result) (asked .before .is-undecided2 .ensures)
+    (c .if4 .request) (c .if4 .found) sought (asked .before .is-undecided2 .result) (asked .stays-held .result) (asked .before .is-undecided2 .ensures)
     (λ g. asked .stays-held .ensures (a .state) (used (a .progress) (a .progressing)) (all-known (inside .before .before .before .before)) g (count-used (a .progress) (a .progressing) (omega (arith, rows start .0, few .0))))
 
 loop4-holds :
@@ -395,13 +416,30 @@ loop4-less :
     tie.Need-loop4-less Inv-loop μ-loop Inv-loop2 μ-loop2 Inv-loop3 μ-loop3 Inv-loop4 μ-loop4
 loop4-less c = omega arith
 
-loop4-again :
-    tie.Need-loop4-again Inv-loop μ-loop Inv-loop2 μ-loop2 Inv-loop3 μ-loop3 Inv-loop4 μ-loop4
-loop4-again c =
-    let turn = c .before .before .before in
-    let start = counted (events-loop (turn .before .before)) .before .before .before in
+disordered-requires-3 : tie.Need-disordered-requires-3 Inv-loop μ-loop Inv-loop2 μ-loop2 Inv-loop3 μ-loop3 Inv-loop4 μ-loop4
+disordered-requires-3 c κs = search needs
+
+returns-3 : tie.Need-returns-3 Inv-loop μ-loop Inv-loop2 μ-loop2 Inv-loop3 μ-loop3 Inv-loop4 μ-loop4
+returns-3 c =
+    let looked = c .before .before in
+    let turn = looked .before .before .before in
+    let requests = turn .before in
+    let start = counted (events-loop (requests .before)) .before .before .before in
+    let a = start .args .t1 in
     let v = turn .loop4 in
-    blanks-more (start .args .t1 .held) _ _ (v .in-order) (c .is-blank2 .result) (v .at) (omega arith) (rows start .1) (c .is-blank2 .ensures) (v .inv)
+    let v3 = requests .before .loop3 in
+    let passed : v3 .at ≡ a .holding = omega (arith, v3 .inv .within, requests .loop3-test .left) in
+    let broken = blanks-broken (a .held) (v3 .at) (v .at) (omega arith) (rows start .1) (v .inv) (sym (looked .is-blank2 .ensures) ∙ not-true _ (c .before .if5 .taken)) in
+    judges-not _ a (start .args .transaction) (c .disordered3 .result) (c .disordered3 .ensures) (marked-held _ a (v3 .at) passed broken)
+
+loop4-again : tie.Need-loop4-again Inv-loop μ-loop Inv-loop2 μ-loop2 Inv-loop3 μ-loop3 Inv-loop4 μ-loop4
+loop4-again c =
+    let looked = c .before in
+    let turn = looked .before .before .before in
+    let requests = turn .before .before in
+    let start = counted (events-loop requests) .before .before .before in
+    let v = turn .loop4 in
+    blanks-more (start .args .t1 .held) (requests .loop3 .at) (v .at) (omega arith) (rows start .1) (v .inv) (sym (looked .is-blank2 .ensures) ∙ not-false _ (c .if5 .left))
 
 add-differ :
     tie.Need-add-differ Inv-loop μ-loop Inv-loop2 μ-loop2 Inv-loop3 μ-loop3 Inv-loop4 μ-loop4
@@ -416,9 +454,9 @@ differ-requires c κs =
     let few = counts (counted (events-loop listed)) in
     (omega (arith, few .0, few .1), listed .loop3 .inv .listed .both)
 
-returns-2 :
-    tie.Need-returns-2 Inv-loop μ-loop Inv-loop2 μ-loop2 Inv-loop3 μ-loop3 Inv-loop4 μ-loop4
-returns-2 c =
+returns-4 :
+    tie.Need-returns-4 Inv-loop μ-loop Inv-loop2 μ-loop2 Inv-loop3 μ-loop3 Inv-loop4 μ-loop4
+returns-4 c =
     let blanks-held = c .before .before .before in
     let requests = blanks-held .before .before in
     let blanks = requests .before .before in
@@ -432,7 +470,7 @@ returns-2 c =
     let v4 = blanks-held .before .loop4 in
     let few = limits (counted (events .before)) in
     let requests-passed : v3 .at ≡ a .holding = omega (arith, v3 .inv .within, requests .loop3-test .left) in
-    judges-all _ a t (v1 .outcomes) (v1 .event) (v3 .request) (v3 .found) (v4 .in-order) (c .differ .result)
+    judges-all _ a t (v1 .outcomes) (v1 .event) (v3 .request) (v3 .found) (v3 .in-order) (c .differ .result)
     (record {
       few = few .0;
       fewHeld = few .1;
@@ -441,13 +479,13 @@ returns-2 c =
       listed = v1 .transactions;
       knows = all-known events;
       passed = events-end _ a t (v1 .event) (v1 .found) (v1 .in-order) (v1 .transactions) (v1 .at) (events-passed events) (v1 .inv .1);
-      blanks = v2 .in-order;
-      blank = blanks-end (a .progress) (v1 .in-order) (v1 .at) (a .progressing) (v2 .in-order) (v2 .at) (events-passed events) (blanks .loop2-test .left) (rows start .0) (v2 .inv);
+      blanks = v1 .in-order;
+      blank = blanks-end (a .progress) (v1 .at) (a .progressing) (v2 .at) (events-passed events) (blanks .loop2-test .left) (rows start .0) (v2 .inv) (v1 .in-order);
       requests = v3 .in-order;
       listedAll = v3 .transactions;
       passedHeld =
-          requests-end _ a t (v1 .outcomes .guarded) (v1 .found) (v2 .in-order) (v1 .transactions) (v3 .request) (v3 .found) (v3 .in-order) (v3 .transactions) (v3 .at) requests-passed (v3 .inv);
-      blankHeld = blanks-end (a .held) (v3 .in-order) (v3 .at) (a .holding) (v4 .in-order) (v4 .at) requests-passed (blanks-held .loop4-test .left) (rows start .1) (v4 .inv);
+          requests-end _ a t (v1 .outcomes .guarded) (v1 .found) (v1 .in-order) (v1 .transactions) (v3 .request) (v3 .found) (v3 .in-order) (v3 .transactions) (v3 .at) requests-passed (v3 .inv);
+      blankHeld = blanks-end (a .held) (v3 .at) (a .holding) (v4 .at) requests-passed (blanks-held .loop4-test .left) (rows start .1) (v4 .inv) (v3 .in-order);
       differs = c .differ .ensures;
     })
 
@@ -464,6 +502,7 @@ judge-spec =
     Inv-loop4
     μ-loop4
     of-requires
+    disordered-requires
     returns
     fits-requires
     loop-holds
@@ -480,6 +519,8 @@ judge-spec =
     mul-slot-2
     element-copy-out-slot-2
     is-blank-requires
+    disordered-requires-2
+    returns-2
     add-at-2
     loop2-less
     loop2-again
@@ -498,9 +539,11 @@ judge-spec =
     mul-slot-4
     element-copy-out-slot-4
     is-blank-requires-2
+    disordered-requires-3
+    returns-3
     add-at-4
     loop4-less
     loop4-again
     add-differ
     differ-requires
-    returns-2)
+    returns-4)

@@ -15,7 +15,7 @@ use Rattle.account.specs.inside.Taken.{markedAt}
 use Rattle.account.proofs.Places.{as-many}
 use Rattle.account.proofs.First.{Applying}
 use Rattle.account.proofs.Applying.{applying-none, applying-stays, applying-next, applying-all}
-use Rattle.account.proofs.Voting.{drained-idle}
+use Rattle.account.proofs.Voting.{drained-taken, drained-idle}
 use Rattle.account.proofs.Account.settle.Statement.{statement}
 use Rattle.account.proofs.Account.settle.Tie as tie
 
@@ -35,8 +35,8 @@ element-copy-out-slot c = search needs
 committed-requires : tie.Need-committed-requires Inv-loop μ-loop
 committed-requires c κs = search needs
 
-mul-t15 : tie.Need-mul-t15 Inv-loop μ-loop
-mul-t15 c = search needs
+mul-t18 : tie.Need-mul-t18 Inv-loop μ-loop
+mul-t18 c = search needs
 
 element-set-from-next : tie.Need-element-set-from-next Inv-loop μ-loop
 element-set-from-next c = search needs
@@ -68,8 +68,8 @@ mul-slot-2 c = search needs
 element-copy-out-slot-2 : tie.Need-element-copy-out-slot-2 Inv-loop μ-loop
 element-copy-out-slot-2 c = search needs
 
-mul-t29 : tie.Need-mul-t29 Inv-loop μ-loop
-mul-t29 c = search needs
+mul-t32 : tie.Need-mul-t32 Inv-loop μ-loop
+mul-t32 c = search needs
 
 element-set-from-next-2 : tie.Need-element-set-from-next-2 Inv-loop μ-loop
 element-set-from-next-2 c = search needs
@@ -83,8 +83,8 @@ effect-requires c κs = search needs
 applied-requires : tie.Need-applied-requires Inv-loop μ-loop
 applied-requires c κs = search needs
 
-mul-t42 : tie.Need-mul-t42 Inv-loop μ-loop
-mul-t42 c = search needs
+mul-t45 : tie.Need-mul-t45 Inv-loop μ-loop
+mul-t45 c = search needs
 
 element-set-from-entries : tie.Need-element-set-from-entries Inv-loop μ-loop
 element-set-from-entries c = search needs
@@ -143,13 +143,15 @@ drain-requires c κs =
 
 returns : tie.Need-returns Inv-loop μ-loop
 returns c =
-    let way = c .before .before .before .before .before in
+    let drained = c .before .before in
+    let way = drained .before .before .before .before .before in
     let join = way .before .before in
     let start = join .before in
     let a = start .args in
     let v = way .loop in
     let size : length (a .self .progress) ≡ 8 = as-many (a .self .progress) (start .good .0 .1 .1 .1 .0 .1 .0 .1) in
-    applying-all _ (a .self) (a .marked) (a .first) (join .if1 .next .progress) (onlyEntry (a .first)) (v .next) (v .entries) (v .state) (v .ended) (v .at) (v .inv .1) (omega arith) (v .inv .0) size refl (c .drain .result) (c .drain .ensures)
+    let drain = drained .drain in
+    applying-all _ (a .self) (a .marked) (a .first) (join .if1 .next .progress) (onlyEntry (a .first)) (v .next) (v .entries) (v .state) (v .ended) (v .at) (v .inv .1) (omega arith) (v .inv .0) size refl _ (drained-taken _ _ (v .entries) (drain .result) (drain .ensures))
 
 returns-2 : tie.Need-returns-2 Inv-loop μ-loop
 returns-2 c =
@@ -170,18 +172,18 @@ settle-spec =
     mul-slot
     element-copy-out-slot
     committed-requires
-    mul-t15
+    mul-t18
     element-set-from-next
     element-set-from-first
     loop-holds
     mul-slot-2
     element-copy-out-slot-2
-    mul-t29
+    mul-t32
     element-set-from-next-2
     is-undecided-requires
     effect-requires
     applied-requires
-    mul-t42
+    mul-t45
     element-set-from-entries
     add-entries
     add-ended

@@ -25,6 +25,7 @@ use Rattle.register.specs.Run.{Run, passedOf}
 use Rattle.register.specs.Helpers.{Filing, filedOf, Fitting}
 use Rattle.register.proofs.Suits.{first-suits}
 use Rattle.register.proofs.Underway.{Underway, starts, ends, Turn, countable, stops-there, goes-on, less-left}
+use Rattle.register.proofs.Votes.{one-fits, vote-filed}
 use Rattle.register.proofs.Turned.{Looked, Goes, turn-refused, named-low, turn-fits, message-goes}
 use Rattle.register.proofs.runs.run.Statement.{statement}
 use Rattle.register.proofs.runs.run.Tie as tie
@@ -244,29 +245,37 @@ request-requires c κs = search needs
 abbrev requested-message : tie.After-request Inv-loop μ-loop → tie.After-message Inv-loop μ-loop
 requested-message c = c .before .before .before .before .before
 
-sub-file : tie.Need-sub-file Inv-loop μ-loop
-sub-file c = roomy (requested-room (requested-message c))
+element-copy-out-vote : tie.Need-element-copy-out-vote Inv-loop μ-loop
+element-copy-out-vote c = omega arith
 
-part-file-start : tie.Need-part-file-start Inv-loop μ-loop
-part-file-start c = roomy (requested-room (requested-message c))
+-- its vote
+abbrev voted : tie.After-vote Inv-loop μ-loop → tie.After-request Inv-loop μ-loop
+voted c = c .before .before
 
-part-file-end : tie.Need-part-file-end Inv-loop μ-loop
-part-file-end c = search needs
+sub-file-vote : tie.Need-sub-file-vote Inv-loop μ-loop
+sub-file-vote c = roomy (requested-room (requested-message (voted c)))
 
-file-requires : tie.Need-file-requires Inv-loop μ-loop
-file-requires c κs =
-    let message = requested-message (c .before) in
-    fits (requested-room message) (requested message) _ (requested-read message) (c .before .request .result) (c .before .request .ensures)
+part-file-vote-start : tie.Need-part-file-vote-start Inv-loop μ-loop
+part-file-vote-start c = roomy (requested-room (requested-message (voted c)))
+
+part-file-vote-end : tie.Need-part-file-vote-end Inv-loop μ-loop
+part-file-vote-end c = search needs
+
+file-vote-requires : tie.Need-file-vote-requires Inv-loop μ-loop
+file-vote-requires c κs =
+    let stepped = voted (c .before) in
+    let message = requested-message stepped in
+    one-fits _ _ _ (fits (requested-room message) (requested message) _ (requested-read message) (stepped .request .result) (stepped .request .ensures) .call)
 
 passed-by-requires : tie.Need-passed-by-requires Inv-loop μ-loop
 passed-by-requires c κs = search needs
 
 -- once it has been counted as passed
-abbrev requested-filed : tie.After-struct-known3 Inv-loop μ-loop → tie.After-file Inv-loop μ-loop
+abbrev requested-filed : tie.After-struct-known3 Inv-loop μ-loop → tie.After-file-vote Inv-loop μ-loop
 requested-filed c = c .before .before .before .before
 
 abbrev requested-named : tie.After-struct-known3 Inv-loop μ-loop → tie.After-message Inv-loop μ-loop
-requested-named c = requested-message (requested-filed c .before .before)
+requested-named c = requested-message (voted (requested-filed c .before .before))
 
 mul-accounts : tie.Need-mul-accounts Inv-loop μ-loop
 mul-accounts c = record { fits = omega (arith, requested-low (requested-named (c .before .before))) }
@@ -275,15 +284,16 @@ array-set-from-accounts : tie.Need-array-set-from-accounts Inv-loop μ-loop
 array-set-from-accounts c = requested-low (requested-named (c .before .before))
 
 requested-goes : (c : tie.Joined3 Inv-loop μ-loop)
-    → GoesAt (requested-room (requested-named (c .before))) (c .before .before .passed-by .result) (c .if3 .accounts) (requested-filed (c .before) .file .last .1 .1 .1 .1 .0)
+    → GoesAt (requested-room (requested-named (c .before))) (c .before .before .passed-by .result) (c .if3 .accounts) (requested-filed (c .before) .file-vote .last .1 .1 .1 .1 .0)
 requested-goes c =
     let passed = c .before .before .passed-by in
     let at-file = requested-filed (c .before) in
-    let filed = at-file .file in
-    let stepped = at-file .before .before .request in
+    let filed = at-file .file-vote in
+    let stepped = voted (at-file .before .before) .request in
     let message = requested-named (c .before) in
-    goes (requested-room message) (requested message) _ (requested-read message) (stepped .result) (stepped .ensures) (filed .result) (passed .result) (filed .ensures .0) (passed .ensures)
-    (filed .last .1 .1 .1 .1 .0) (c .if3 .accounts) (filed .ensures .1)
+    let alone = vote-filed _ _ _ _ _ _ _ _ _ (stepped .result) (stepped .ensures) in
+    goes (requested-room message) (requested message) _ (requested-read message) (stepped .result) (stepped .ensures) (filed .result) (passed .result) (filed .ensures .0 ∙ ap (λ (f : Filing). f .reply) alone) (passed .ensures)
+    (filed .last .1 .1 .1 .1 .0) (c .if3 .accounts) (filed .ensures .1 ∙ ap (λ (f : Filing). f .buffer) alone)
     (⊎-elim (λ z. inl (z .0 .taken, ap as-register (z .2))) (λ z. inr (z .0 .left, ap as-register (z .1))) (c .if3 .came))
 
 with-message-requires-2 : tie.Need-with-message-requires-2 Inv-loop μ-loop
@@ -330,17 +340,17 @@ commit-requires c κs = search needs
 abbrev committed-message : tie.After-commit Inv-loop μ-loop → tie.After-message2 Inv-loop μ-loop
 committed-message c = c .before .before .before .before .before
 
-sub-file-2 : tie.Need-sub-file-2 Inv-loop μ-loop
-sub-file-2 c = roomy (committed-room (committed-message c))
+sub-file : tie.Need-sub-file Inv-loop μ-loop
+sub-file c = roomy (committed-room (committed-message c))
 
-part-file-start-2 : tie.Need-part-file-start-2 Inv-loop μ-loop
-part-file-start-2 c = roomy (committed-room (committed-message c))
+part-file-start : tie.Need-part-file-start Inv-loop μ-loop
+part-file-start c = roomy (committed-room (committed-message c))
 
-part-file-end-2 : tie.Need-part-file-end-2 Inv-loop μ-loop
-part-file-end-2 c = search needs
+part-file-end : tie.Need-part-file-end Inv-loop μ-loop
+part-file-end c = search needs
 
-file-requires-2 : tie.Need-file-requires-2 Inv-loop μ-loop
-file-requires-2 c κs =
+file-requires : tie.Need-file-requires Inv-loop μ-loop
+file-requires c κs =
     let message = committed-message (c .before) in
     fits (committed-room message) (committed message) _ (committed-read message) (c .before .commit .result) (c .before .commit .ensures)
 
@@ -348,7 +358,7 @@ passed-by-requires-2 : tie.Need-passed-by-requires-2 Inv-loop μ-loop
 passed-by-requires-2 c κs = search needs
 
 -- once it has been counted as passed
-abbrev committed-filed : tie.After-struct-known5 Inv-loop μ-loop → tie.After-file2 Inv-loop μ-loop
+abbrev committed-filed : tie.After-struct-known5 Inv-loop μ-loop → tie.After-file Inv-loop μ-loop
 committed-filed c = c .before .before .before .before
 
 abbrev committed-named : tie.After-struct-known5 Inv-loop μ-loop → tie.After-message2 Inv-loop μ-loop
@@ -361,11 +371,11 @@ array-set-from-accounts-2 : tie.Need-array-set-from-accounts-2 Inv-loop μ-loop
 array-set-from-accounts-2 c = committed-low (committed-named (c .before .before))
 
 committed-goes : (c : tie.Joined4 Inv-loop μ-loop)
-    → GoesAt (committed-room (committed-named (c .before))) (c .before .before .passed-by2 .result) (c .if4 .accounts) (committed-filed (c .before) .file2 .last .1 .1 .1 .1 .0)
+    → GoesAt (committed-room (committed-named (c .before))) (c .before .before .passed-by2 .result) (c .if4 .accounts) (committed-filed (c .before) .file .last .1 .1 .1 .1 .0)
 committed-goes c =
     let passed = c .before .before .passed-by2 in
     let at-file = committed-filed (c .before) in
-    let filed = at-file .file2 in
+    let filed = at-file .file in
     let stepped = at-file .before .before .commit in
     let message = committed-named (c .before) in
     goes (committed-room message) (committed message) _ (committed-read message) (stepped .result) (stepped .ensures) (filed .result) (passed .result) (filed .ensures .0) (passed .ensures)
@@ -416,17 +426,17 @@ abort-requires c κs = search needs
 abbrev aborted-message : tie.After-abort Inv-loop μ-loop → tie.After-message3 Inv-loop μ-loop
 aborted-message c = c .before .before .before .before .before
 
-sub-file-3 : tie.Need-sub-file-3 Inv-loop μ-loop
-sub-file-3 c = roomy (aborted-room (aborted-message c))
+sub-file-2 : tie.Need-sub-file-2 Inv-loop μ-loop
+sub-file-2 c = roomy (aborted-room (aborted-message c))
 
-part-file-start-3 : tie.Need-part-file-start-3 Inv-loop μ-loop
-part-file-start-3 c = roomy (aborted-room (aborted-message c))
+part-file-start-2 : tie.Need-part-file-start-2 Inv-loop μ-loop
+part-file-start-2 c = roomy (aborted-room (aborted-message c))
 
-part-file-end-3 : tie.Need-part-file-end-3 Inv-loop μ-loop
-part-file-end-3 c = search needs
+part-file-end-2 : tie.Need-part-file-end-2 Inv-loop μ-loop
+part-file-end-2 c = search needs
 
-file-requires-3 : tie.Need-file-requires-3 Inv-loop μ-loop
-file-requires-3 c κs =
+file-requires-2 : tie.Need-file-requires-2 Inv-loop μ-loop
+file-requires-2 c κs =
     let message = aborted-message (c .before) in
     fits (aborted-room message) (aborted message) _ (aborted-read message) (c .before .abort .result) (c .before .abort .ensures)
 
@@ -434,7 +444,7 @@ passed-by-requires-3 : tie.Need-passed-by-requires-3 Inv-loop μ-loop
 passed-by-requires-3 c κs = search needs
 
 -- once it has been counted as passed
-abbrev aborted-filed : tie.After-struct-known7 Inv-loop μ-loop → tie.After-file3 Inv-loop μ-loop
+abbrev aborted-filed : tie.After-struct-known7 Inv-loop μ-loop → tie.After-file2 Inv-loop μ-loop
 aborted-filed c = c .before .before .before .before
 
 abbrev aborted-named : tie.After-struct-known7 Inv-loop μ-loop → tie.After-message3 Inv-loop μ-loop
@@ -447,11 +457,11 @@ array-set-from-accounts-3 : tie.Need-array-set-from-accounts-3 Inv-loop μ-loop
 array-set-from-accounts-3 c = aborted-low (aborted-named (c .before .before))
 
 aborted-goes : (c : tie.Joined5 Inv-loop μ-loop)
-    → GoesAt (aborted-room (aborted-named (c .before))) (c .before .before .passed-by3 .result) (c .if5 .accounts) (aborted-filed (c .before) .file3 .last .1 .1 .1 .1 .0)
+    → GoesAt (aborted-room (aborted-named (c .before))) (c .before .before .passed-by3 .result) (c .if5 .accounts) (aborted-filed (c .before) .file2 .last .1 .1 .1 .1 .0)
 aborted-goes c =
     let passed = c .before .before .passed-by3 in
     let at-file = aborted-filed (c .before) in
-    let filed = at-file .file3 in
+    let filed = at-file .file2 in
     let stepped = at-file .before .before .abort in
     let message = aborted-named (c .before) in
     goes (aborted-room message) (aborted message) _ (aborted-read message) (stepped .result) (stepped .ensures) (filed .result) (passed .result) (filed .ensures .0) (passed .ensures)
@@ -509,10 +519,11 @@ run-spec =
     mul-account
     array-copy-out-account
     request-requires
-    sub-file
-    part-file-start
-    part-file-end
-    file-requires
+    element-copy-out-vote
+    sub-file-vote
+    part-file-vote-start
+    part-file-vote-end
+    file-vote-requires
     passed-by-requires
     mul-accounts
     array-set-from-accounts
@@ -524,10 +535,10 @@ run-spec =
     mul-account-2
     array-copy-out-account-2
     commit-requires
-    sub-file-2
-    part-file-start-2
-    part-file-end-2
-    file-requires-2
+    sub-file
+    part-file-start
+    part-file-end
+    file-requires
     passed-by-requires-2
     mul-accounts-2
     array-set-from-accounts-2
@@ -539,10 +550,10 @@ run-spec =
     mul-account-3
     array-copy-out-account-3
     abort-requires
-    sub-file-3
-    part-file-start-3
-    part-file-end-3
-    file-requires-3
+    sub-file-2
+    part-file-start-2
+    part-file-end-2
+    file-requires-2
     passed-by-requires-3
     mul-accounts-3
     array-set-from-accounts-3
