@@ -17,7 +17,7 @@ use Rattle.events.specs.declared.Range.{Range}
 use Rattle.events.specs.declared.condition.Condition.{Condition}
 use Rattle.events.specs.Events.{limit, isNew, isOpened, isClosed, guardOf, tableEffect, effectOf, stateFits}
 use Rattle.events.specs.Condition.{most, conditionOf, takes, holds}
-use Rattle.events.specs.Range.{everyIn, moved}
+use Rattle.events.specs.Range.{everyIn, joined, moved, rangeAfter, rangePerhaps, storedEffect, storedAfter, storedPerhaps}
 
 -- two tests that follow from each other
 pub alike : (p q : Bool) → (p ≡ true → q ≡ true) → (q ≡ true → p ≡ true) → p ≡ q
@@ -113,3 +113,22 @@ moved-fits (Deposit a) x h k all =
     let below = leb-true (x .highest) (limit - a) (and-right (other && amount) (leb (x .highest) (limit - a)) all) in
     (omega arith, omega arith)
 moved-fits Close x h k all = (omega arith, omega arith)
+
+-- what fits is stored by the table,
+pub stored-table : (e : Event) (s : State) → tableEffect e s .balance ≤ most → storedEffect e s ≡ tableEffect e s
+stored-table (Open a) s h = refl
+stored-table (Withdraw a) s h = refl
+stored-table (Deposit a) s h = rw (le-leb (s .balance + a) most h)
+stored-table Close s h = refl
+
+-- and so is a range in which the guard holds everywhere
+module _ (e : Event) (x : Range) (h : x .lowest ≤ x .highest) (k : x .highest ≤ most) (all : everyIn e x ≡ true) where
+  pub stored-after : storedAfter e x ≡ rangeAfter e x
+  stored-after =
+      let fits = moved-fits e x h k all in
+      let low : State = record { life = Opened; balance = x .lowest } in
+      let high : State = record { life = Opened; balance = x .highest } in
+      rw (stored-table e low (fits .0), stored-table e high (fits .1))
+
+  pub stored-perhaps : storedPerhaps e x ≡ rangePerhaps e x
+  stored-perhaps = ap (joined x) stored-after

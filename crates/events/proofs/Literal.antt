@@ -1,4 +1,4 @@
--- By computing.
+-- By computing; what is stored where the guard holds, by the law on it.
 -- Assumes nothing.
 use Prim.Native.Nat.{ℕ}
 use native.Mathlib.Nat.{max-zero}
@@ -9,7 +9,8 @@ use Rattle.events.specs.declared.Event.{Event}
 use Rattle.events.specs.declared.Range.{Range}
 use Rattle.events.specs.Kinds.{eventOf}
 use Rattle.events.specs.Range.{rangeOf}
-use Rattle.events.specs.Literal.{ThroughLiteral, LiteralHolds}
+use Rattle.events.specs.Literal.{range, ThroughLiteral, LiteralHolds}
+use Rattle.events.proofs.Guards.{stored-after}
 
 pub literal-holds : LiteralHolds
 unfolding eventOf rangeOf
@@ -47,6 +48,16 @@ literal-holds =
             afterDeposit = refl;
             afterClose = refl;
             perhaps = λ e. refl;
+          };
+      stored =
+          λ l h n o c a.
+          record {
+            storedOpen = refl;
+            storedWithdraw = refl;
+            storedDeposit = refl;
+            storedClose = refl;
+            perhaps = λ e. refl;
+            guarded = λ e ordered few all. stored-after e (range l h n o c) ordered few all;
           };
       occurring = λ states life. record { occurs = (λ x. x, λ x. x) };
       together = λ l h k j n m c d. record { both = refl; first = refl; second = refl };

@@ -1,9 +1,9 @@
 -- Kinds and amounts, the tests of a life, and what is known of many states at a glance, each said a second time row by row over all numbers (docs/REGISTER.md, 3.1, 4.5 and 9.2).
 -- A word that stands in a statement cannot be changed with it.
 -- Assumes nothing.
-use Prim.Native.Nat.{ℕ, _+_, _-_, min, max}
+use Prim.Native.Nat.{ℕ, _+_, _-_, _≤_, min, max}
 use mathlib.Core.Path.{_≡_}
-use mathlib.Core.Bool.{Bool, true, false, _&&_, _||_, not}
+use mathlib.Core.Bool.{Bool, true, false, cond, _&&_, _||_, not}
 use mathlib.Core.Logic.{_↔_}
 use mathlib.Core.List.{List, [], _∷_, _++_, map}
 use lib.Dec.{leb}
@@ -18,7 +18,7 @@ use Rattle.events.specs.Events.{limit, isNew, isOpened, isClosed}
 use Rattle.events.specs.Kinds.{eventKind, amountOf, eventOf}
 use Rattle.events.specs.Table.{events}
 use Rattle.events.specs.Glance.{Occurs}
-use Rattle.events.specs.Range.{rangeOf, rangeOfOne, joined, everyIn, someIn, rangeAfter, rangePerhaps, rangeThrough}
+use Rattle.events.specs.Range.{rangeOf, rangeOfOne, joined, everyIn, someIn, rangeAfter, rangePerhaps, storedAfter, storedPerhaps, rangeThrough}
 
 -- the four events by kind and amount; the lives; the limit
 pub record EventLiteral (a : ℕ) : Type 0 where
@@ -64,6 +64,17 @@ module _ (l h : ℕ) (n o c : Bool) where
     pub afterClose : rangeAfter Close range ≡ record { lowest = 0; highest = 0; new = false; opened = false; closed = true }
     pub perhaps : (e : Event) → rangePerhaps e range ≡ joined range (rangeAfter e range)
 
+  -- what is stored: the same, but for a balance that four bytes have no room for, and so the same where the guard holds in all states
+  pub record StoredLiteral (a : ℕ) : Type 0 where
+    pub storedOpen : storedAfter (Open a) range ≡ rangeAfter (Open a) range
+    pub storedWithdraw : storedAfter (Withdraw a) range ≡ rangeAfter (Withdraw a) range
+    pub storedDeposit :
+        storedAfter (Deposit a) range
+        ≡ record { lowest = cond (leb (l + a) 4_294_967_295) (l + a) l; highest = cond (leb (h + a) 4_294_967_295) (h + a) h; new = false; opened = true; closed = false }
+    pub storedClose : storedAfter Close range ≡ rangeAfter Close range
+    pub perhaps : (e : Event) → storedPerhaps e range ≡ joined range (storedAfter e range)
+    pub guarded : (e : Event) → l ≤ h → h ≤ 4_294_967_295 → everyIn e range ≡ true → storedAfter e range ≡ rangeAfter e range
+
 -- two ranges together: of the lowest balances those of opened states count
 pub record JoinedLiteral (l h k j : ℕ) (n m c d : Bool) : Type 0 where
   pub both : joined (range l h n true c) (range k j m true d) ≡ record { lowest = min l k; highest = max h j; new = n || m; opened = true; closed = c || d }
@@ -84,5 +95,6 @@ pub record LiteralHolds : Type 0 where
   pub event : (a : ℕ) → EventLiteral a
   pub one : (b : ℕ) → OneLiteral b
   pub row : (l h : ℕ) (n o c : Bool) (a : ℕ) → RangeLiteral l h n o c a
+  pub stored : (l h : ℕ) (n o c : Bool) (a : ℕ) → StoredLiteral l h n o c a
   pub occurring : (states : List State) (life : Life) → OccursMeans states life
   pub together : (l h k j : ℕ) (n m c d : Bool) → JoinedLiteral l h k j n m c d

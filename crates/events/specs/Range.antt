@@ -1,16 +1,18 @@
 -- What is known of many states at a glance, and how it is kept: `rangeOf` says what it is of a list of states; the others, what the code does with it.
 -- Assumes nothing.
-use Prim.Native.Nat.{ℕ, min, max}
+use Prim.Native.Nat.{ℕ, _+_, min, max}
 use mathlib.Core.Bool.{Bool, cond, _&&_, _||_, not}
 use mathlib.Core.List.{List, [], _∷_, map}
+use lib.Dec.{leb}
 use Rattle.rule.specs.Lists.{some-of, keep}
 use Rattle.rule.specs.Rule.{Slot, slot, undecided, committed}
 use Rattle.events.specs.declared.Event.{Event}
+use Rattle.events.specs.declared.Event.the-variants.{Open, Withdraw, Deposit, Close}
 use Rattle.events.specs.declared.Life.the-variants.{Opened}
 use Rattle.events.specs.declared.State.{State}
 use Rattle.events.specs.declared.Range.{Range}
 use Rattle.events.specs.Events.{isNew, isOpened, isClosed, tableEffect}
-use Rattle.events.specs.Condition.{conditionOf, asks, takes}
+use Rattle.events.specs.Condition.{most, conditionOf, asks, takes}
 
 -- the lowest of some numbers, and the highest; of none it is 0
 abbrev pub lowestOf : List ℕ → ℕ
@@ -72,19 +74,28 @@ someIn e x = asks (conditionOf e) (x .new) (x .opened) (x .closed) && takes (con
 abbrev pub moved : Event → ℕ → State
 moved e balance = tableEffect e (record { life = Opened; balance = balance })
 
+abbrev pub rangeMoved : (lowest highest : State) → Range
+rangeMoved low high = record { lowest = low .balance; highest = high .balance; new = isNew (low .life); opened = isOpened (low .life); closed = isClosed (low .life) }
+
 abbrev pub rangeAfter : Event → Range → Range
-rangeAfter e x =
-    record {
-      lowest = moved e (x .lowest) .balance;
-      highest = moved e (x .highest) .balance;
-      new = isNew (moved e (x .lowest) .life);
-      opened = isOpened (moved e (x .lowest) .life);
-      closed = isClosed (moved e (x .lowest) .life);
-    }
+rangeAfter e x = rangeMoved (moved e (x .lowest)) (moved e (x .highest))
 
 -- and one that is applied in one half of the outcomes
 abbrev pub rangePerhaps : Event → Range → Range
 rangePerhaps e x = joined x (rangeAfter e x)
+
+-- both as they are stored, whatever the guard says: a deposit that has no room in four bytes leaves the balance
+abbrev pub storedEffect : Event → State → State
+storedEffect (Open a) s = tableEffect (Open a) s
+storedEffect (Withdraw a) s = tableEffect (Withdraw a) s
+storedEffect (Deposit a) s = record { life = s .life; balance = cond (leb (s .balance + a) most) (s .balance + a) (s .balance) }
+storedEffect Close s = tableEffect Close s
+
+abbrev pub storedAfter : Event → Range → Range
+storedAfter e x = rangeMoved (storedEffect e (record { life = Opened; balance = x .lowest })) (storedEffect e (record { life = Opened; balance = x .highest }))
+
+abbrev pub storedPerhaps : Event → Range → Range
+storedPerhaps e x = joined x (storedAfter e x)
 
 -- through events in progress, oldest first
 abbrev pub rangeThrough : {G : Type 0} → List (Slot G Event) → Range → Range

@@ -5,10 +5,10 @@ use crate::Range;
 use crate::State;
 use crate::condition::Condition;
 ghost use mathlib.Core.Path.{_≡_};
-ghost use mathlib.Core.Bool.{true, cond};
-ghost use Prim.Native.Nat.{_≤_, min, max};
+ghost use mathlib.Core.Bool.{cond};
+ghost use Prim.Native.Nat.{min, max};
 ghost use Rattle.events.specs.declared.Life.the-variants.{Opened};
-ghost use Rattle.events.specs.Range.{rangeOfOne, joined, rangeAfter, rangePerhaps, everyIn, someIn};
+ghost use Rattle.events.specs.Range.{rangeOfOne, joined, storedAfter, storedPerhaps, everyIn, someIn};
 
 impl Range {
     // The range of one outcome.
@@ -47,9 +47,9 @@ impl Range {
             & condition.takes(self.highest, self.lowest)
     }
 
-    // The range after an event that is applied in every outcome, where its guard holds in every one.
+    // The range after an event that is applied in every outcome: where its guard holds in every one, that of the outcomes that follow.
     pub fn after(self, event: Event) -> Range
-        ensures { λ r. ⌜ (self .lowest ≤ self .highest → everyIn event self ≡ true → r ≡ rangeAfter event self) ⌝ }
+        ensures { λ r. ⌜ r ≡ storedAfter event self ⌝ }
     {
         let low = event.applied(opened(self.lowest));
         let high = event.applied(opened(self.highest));
@@ -63,9 +63,9 @@ impl Range {
         }
     }
 
-    // The range with an event that is applied in one half of the outcomes, where its guard holds in every one.
+    // The range with an event that is applied in one half of the outcomes.
     pub fn perhaps(self, event: Event) -> Range
-        ensures { λ r. ⌜ (self .lowest ≤ self .highest → everyIn event self ≡ true → r ≡ rangePerhaps event self) ⌝ }
+        ensures { λ r. ⌜ r ≡ storedPerhaps event self ⌝ }
     {
         self.joined(self.after(event))
     }

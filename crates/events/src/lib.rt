@@ -4,10 +4,13 @@ mod glance;
 
 use condition::Condition;
 ghost use mathlib.Core.Path.{_≡_};
-ghost use Prim.Native.Nat.{_+_, _-_, _≤_};
-ghost use Rattle.events.specs.Events.{isNew, isOpened, isClosed, guardOf, tableEffect, effectOf, stateFits, isBlankEvent};
+ghost use mathlib.Core.Bool.{cond};
+ghost use Prim.Native.Nat.{_+_, _-_};
+ghost use lib.Dec.{leb};
+ghost use Rattle.events.specs.Events.{isNew, isOpened, isClosed, guardOf, effectOf, stateFits, isBlankEvent};
 ghost use Rattle.events.specs.Kinds.{eventKind, amountOf, eventOf};
 ghost use Rattle.events.specs.Condition.{most};
+ghost use Rattle.events.specs.Range.{storedEffect};
 
 // An event, with its amount of adjustment steps.
 pub enum Event {
@@ -82,7 +85,7 @@ impl Event {
 
     // The state after the event by the table, whatever its guard says; a balance too high for its four bytes is left as it is.
     pub(crate) fn applied(self, state: State) -> State
-        ensures { λ r. ⌜ (tableEffect self state .balance ≤ most → r ≡ tableEffect self state) ⌝ }
+        ensures { λ r. ⌜ r ≡ storedEffect self state ⌝ }
     {
         let life = state.life;
         match self {
@@ -202,7 +205,7 @@ fn less(balance: u32, amount: u32) -> u32
 
 // The balance and an amount; the balance alone where they are too many for four bytes.
 fn more(balance: u32, amount: u32) -> u32
-    ensures { λ r. ⌜ (balance + amount ≤ most → r ≡ balance + amount) ⌝ }
+    ensures { λ r. ⌜ r ≡ cond (leb (balance + amount) most) (balance + amount) balance ⌝ }
 {
     if balance <= Condition::MOST - amount {
         balance + amount

@@ -1,4 +1,4 @@
--- In each arm the event is its constructor; a difference is what the helper ensures, and so is a sum that fits.
+-- In each arm the event is its constructor; a difference is what the helper ensures, and so is a sum.
 -- Assumes nothing.
 use borrow.Author.Needs.{needs}
 use Rattle.events.proofs.Event.applied.Statement.{statement}
@@ -23,18 +23,16 @@ enum-told : tie.Need-enum-told
 enum-told c = search needs
 
 returns : tie.Need-returns
-returns c = λ h. rw (c .before .self .given .1)
+returns c = rw (c .before .self .given .1)
 
 returns-2 : tie.Need-returns-2
-returns-2 c = λ h. rw (c .before .before .self2 .given .1, c .less .ensures)
+returns-2 c = rw (c .before .before .self2 .given .1, c .less .ensures)
 
 returns-3 : tie.Need-returns-3
-returns-3 c =
-    let told = c .before .before .self3 .given .1 in
-    λ h. rw (told, c .more .ensures (rw told at h))
+returns-3 c = rw (c .before .before .self3 .given .1, c .more .ensures)
 
 returns-4 : tie.Need-returns-4
-returns-4 c = λ h. rw (c .enum-told .given .1)
+returns-4 c = rw (c .enum-told .given .1)
 
 pub applied-spec : {M : Type 1} → statement M
 applied-spec =

@@ -3,7 +3,7 @@
 use mathlib.Core.Path.{sym, _∙_}
 use native.Mathlib.Omega.{arith}
 use Rattle.events.specs.Events.{effectOf}
-use Rattle.events.proofs.Guards.{effect-fits}
+use Rattle.events.proofs.Guards.{effect-fits, stored-table}
 use borrow.Author.Needs.{needs}
 use Rattle.events.proofs.Event.effect.Statement.{statement}
 use Rattle.events.proofs.Event.effect.Tie as tie
@@ -19,7 +19,7 @@ unfolding effectOf
 returns c =
     let a = c .before .before .before .args in
     let g = sym (c .before .before .guard .ensures) ∙ c .before .if1 .taken in
-    rw g (c .applied .ensures (effect-fits (a .self) (a .state) (omega arith) g))
+    rw g (c .applied .ensures ∙ stored-table (a .self) (a .state) (effect-fits (a .self) (a .state) (omega arith) g))
 
 returns-2 : tie.Need-returns-2
 unfolding effectOf

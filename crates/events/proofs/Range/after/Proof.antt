@@ -1,11 +1,5 @@
--- What the event does to the lowest and to the highest is what the helper ensures, since both fit.
+-- What the event does to the lowest and to the highest is what the helper ensures.
 -- Assumes nothing.
-use mathlib.Core.Path.{_≡_, _∙_, ap}
-use native.Mathlib.Omega.{arith}
-use Rattle.events.specs.declared.State.{State}
-use Rattle.events.specs.Events.{tableEffect}
-use Rattle.events.specs.Range.{moved}
-use Rattle.events.proofs.Guards.{moved-fits}
 use borrow.Author.Needs.{needs}
 use Rattle.events.proofs.Range.after.Statement.{statement}
 use Rattle.events.proofs.Range.after.Tie as tie
@@ -35,15 +29,15 @@ returns : tie.Need-returns
 returns c =
     let high = c .before .before .before in
     let low = high .before .before in
-    let a = low .before .before .args in
-    λ h all.
-    let fits = moved-fits (a .event) (a .self) h (omega (arith, low .before .before .good)) all in
-    let lowest : low .applied .result ≡ moved (a .event) (a .self .lowest) =
-    low .applied .ensures (rw (low .before .opened .ensures) (fits .0)) ∙ ap (λ (s : State). tableEffect (a .event) s) (low .before .opened .ensures)
-    in
-    let highest : high .applied2 .result ≡ moved (a .event) (a .self .highest) =
-    high .applied2 .ensures (rw (high .before .opened2 .ensures) (fits .1)) ∙ ap (λ (s : State). tableEffect (a .event) s) (high .before .opened2 .ensures)
-    in rw (c .is-closed .ensures, c .before .is-opened .ensures, c .before .before .is-new .ensures, lowest, highest)
+    rw (
+      c .is-closed .ensures,
+      c .before .is-opened .ensures,
+      c .before .before .is-new .ensures,
+      low .applied .ensures,
+      low .before .opened .ensures,
+      high .applied2 .ensures,
+      high .before .opened2 .ensures,
+    )
 
 pub after-spec : {M : Type 1} → statement M
 after-spec =

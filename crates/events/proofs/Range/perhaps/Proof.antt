@@ -13,7 +13,7 @@ joined-requires : tie.Need-joined-requires
 joined-requires c κs = search needs
 
 returns : tie.Need-returns
-returns c = λ h all. c .joined .ensures ∙ ap (joined (c .before .before .args .self)) (c .before .after .ensures h all)
+returns c = c .joined .ensures ∙ ap (joined (c .before .before .args .self)) (c .before .after .ensures)
 
 pub perhaps-spec : {M : Type 1} → statement M
 perhaps-spec = tie.close (tie.spec after-requires joined-requires returns)

@@ -1,6 +1,8 @@
 -- By the decision: the range after the event, or perhaps after it, is what the helper ensures.
 -- Assumes nothing.
 use mathlib.Core.Path.{sym, _∙_}
+use native.Mathlib.Omega.{arith}
+use Rattle.events.proofs.Guards.{stored-after, stored-perhaps}
 use Rattle.account.proofs.First.{first-ranged}
 use Rattle.account.proofs.Known.{knows-after, knows-perhaps}
 use borrow.Author.Needs.{needs}
@@ -29,7 +31,8 @@ returns c =
     let a = asked .before .before .args in
     λ s xs t g k.
     knows-perhaps _ first-ranged s xs (a .self) k t g (a .event) (a .decision) (c .before .perhaps .result) (asked .every .result) (asked .every .ensures)
-    (sym (tested .before .is-undecided .ensures) ∙ tested .if1 .taken) (c .before .perhaps .ensures)
+    (sym (tested .before .is-undecided .ensures) ∙ tested .if1 .taken)
+    (λ ordered all. c .before .perhaps .ensures ∙ stored-perhaps (a .event) (a .self .range) ordered (omega (arith, asked .before .before .good)) all)
 
 returns-2 : tie.Need-returns-2
 returns-2 c =
@@ -38,7 +41,8 @@ returns-2 c =
     let a = asked .before .before .args in
     λ s xs t g k.
     knows-after _ first-ranged s xs (a .self) k t g (a .event) (a .decision) (c .after .result) (asked .every .result) (asked .every .ensures)
-    (sym (tested .before .is-undecided .ensures) ∙ tested .if1 .left) (c .after .ensures)
+    (sym (tested .before .is-undecided .ensures) ∙ tested .if1 .left)
+    (λ ordered all. c .after .ensures ∙ stored-after (a .event) (a .self .range) ordered (omega (arith, asked .before .before .good)) all)
 
 pub with-spec : {M : Type 1} → statement M
 with-spec =
