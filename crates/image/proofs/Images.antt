@@ -12,7 +12,7 @@ use Rattle.account.specs.declared.Account.{Account}
 use Rattle.image.specs.Words.{accountWords, wordsOfSlot, wordsOfSlots, wordsOf, storedIn}
 use Rattle.image.specs.Reading.{accountFrom}
 use Rattle.image.specs.Images.{Kept, fresh, Stores, ImagesHold}
-use Rattle.image.proofs.ReadBack.{length-words, account-back, reads-back, one-account}
+use Rattle.image.proofs.ReadBack.{length-of-rows, account-back, reads-back, one-account}
 use Rattle.image.proofs.OwnWords.{own-words}
 use Rattle.image.proofs.WrittenBack.{written-back}
 
@@ -40,15 +40,15 @@ module _ (size from : ℕ) (h : from + 84 ≤ size) where
       let begins : length (zeros from) ≡ from = length-replicate {A = ℕ} from 0 in
       ap (λ (l : List ℕ). accountFrom l from) zeros-apart ∙ ap (accountFrom (zeros from ++ wordsOf fresh ++ zeros left)) (sym begins) ∙ account-back fresh kept-fresh (zeros from) (zeros left)
 
-stores : (words : List ℕ) (from : ℕ) (a : Account) → Kept a → Stores words from a
+stores : (words : List ℕ) (from : ℕ) (a : Account) → length (a .progress) ≡ 8 → length (a .held) ≡ 8 → Stores words from a
 unfolding storedIn
-stores words from a k =
+stores words from a p h =
     record {
       room =
-          λ h.
-          let size = length-words a k in
-          rw (le-leb (from + accountWords) (length words) h) (sets-eq (wordsOf a) words from (rw size h) ∙ rw size refl);
-      none = λ h. rw (lt-leb (from + accountWords) (length words) h) refl;
+          λ r.
+          let size = length-of-rows a p h in
+          rw (le-leb (from + accountWords) (length words) r) (sets-eq (wordsOf a) words from (rw size r) ∙ rw size refl);
+      none = λ r. rw (lt-leb (from + accountWords) (length words) r) refl;
     }
 
 pub images-hold : ImagesHold

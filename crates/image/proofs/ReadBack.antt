@@ -57,14 +57,17 @@ are-slots-back (x ∷ xs) after =
 
 -- ---- an account
 
+pub length-of-rows : (a : Account) → length (a .progress) ≡ places → length (a .held) ≡ places → length (wordsOf a) ≡ accountWords
+unfolding wordsOf
+length-of-rows a p h =
+    omega (arith, length-append (headOf a ++ wordsOfSlots (a .progress)) (wordsOfSlots (a .held)), length-append (headOf a) (wordsOfSlots (a .progress)), length-slots (a .progress), length-slots (a .held), p, h)
+
 module _ (a : Account) (k : Kept a) where
   row-words : length (wordsOfSlots (a .progress)) ≡ rowWords
   row-words = length-slots (a .progress) ∙ ap (λ (n : ℕ). n * placeWords) (k .progress)
 
-  pub length-words : length (wordsOf a) ≡ accountWords
-  unfolding wordsOf
-  length-words =
-      omega (arith, length-append (headOf a ++ wordsOfSlots (a .progress)) (wordsOfSlots (a .held)), length-append (headOf a) (wordsOfSlots (a .progress)), length-slots (a .progress), length-slots (a .held), k .progress, k .held)
+  length-words : length (wordsOf a) ≡ accountWords
+  length-words = length-of-rows a (k .progress) (k .held)
 
   module _ (after : List ℕ) where
     progress-part : drop headWords (wordsOf a ++ after) ≡ wordsOfSlots (a .progress) ++ (wordsOfSlots (a .held) ++ after)

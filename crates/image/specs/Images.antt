@@ -61,7 +61,8 @@ pub record Zeroed : Type 0 where
   pub image : wordsOf fresh ≡ replicate 84 0
   pub reads : (size from : ℕ) → from + 84 ≤ size → accountFrom (replicate size 0) from ≡ fresh
 
--- the 84 words from `from` on are the image, and no other word changes; without room for all of them none does
+-- the 84 words from `from` on are the image, and no other word changes; without room for all of them none does. So of every account with eight places in each row, whatever its counts are:
+-- one that no word holds is no reason not to store
 pub record Stores (words : List ℕ) (from : ℕ) (a : Account) : Type 0 where
   pub room : from + 84 ≤ length words → storedIn words from a ≡ take from words ++ wordsOf a ++ drop (from + 84) words
   pub none : length words < from + 84 → storedIn words from a ≡ words
@@ -72,4 +73,4 @@ pub record ImagesHold : Type 0 where
   pub own : OwnWords
   pub written : (R : Rule State Event ℕ) → R .progressLimit ≤ 8 → (words : List ℕ) (from : ℕ) → AreWords words → WrittenBack R words from
   pub zeroed : Zeroed
-  pub stores : (words : List ℕ) (from : ℕ) (a : Account) → Kept a → Stores words from a
+  pub stores : (words : List ℕ) (from : ℕ) (a : Account) → length (a .progress) ≡ 8 → length (a .held) ≡ 8 → Stores words from a

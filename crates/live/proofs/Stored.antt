@@ -47,7 +47,7 @@ module _ (words : List ℕ) (at : ℕ) (a : Account) (k : Kept a) (room : at + a
   behind = drop (at + accountWords) words
 
   stored-is : storedIn words at a ≡ before ++ wordsOf a ++ behind
-  stored-is = images-hold .stores words at a k .room room
+  stored-is = images-hold .stores words at a (k .progress) (k .held) .room room
 
   words-are : words ≡ before ++ own ++ behind
   words-are =

@@ -58,5 +58,14 @@ plain-holds =
       values = λ sofar digit digits. record { none = refl; more = value-last sofar digit digits };
       lines = λ e account buffer. record { short = λ h. rw (lt-ltb (length buffer) 68 h) refl; enough = λ h. rw (le-ltb (length buffer) 68 h) refl };
       steps = steps-plain;
+      contracts =
+          λ s r input text before after at most next.
+          record {
+            served = λ c. c .state;
+            buffer = λ c. c .text .stored;
+            ends = λ c. c .place;
+            within = λ c. c .within;
+            stored = λ c. c .stored;
+          };
       longest = record { line = refl; text = refl; input = refl };
     }

@@ -1,21 +1,22 @@
 -- Digits, a line in a buffer, and the program's steps on any input, said a second time (clauses 12.1 to 12.5 of docs/REGISTER.md): a decimal digit by digit from its end, what the
--- writer of a line gives with each length of buffer, and what is printed at the beginning, for a message and at the end.
+-- writer of a line gives with each length of buffer, what is printed at the beginning, for a message and at the end, and what the contracts of the steps say of buffers.
 -- Assumes nothing.
 use Prim.Native.Nat.{ℕ, _+_, _*_, _-_, _/_, _%_, _^_, _≤_, _<_}
 use mathlib.Core.Path.{_≡_}
 use mathlib.Core.Bool.{cond}
 use mathlib.Core.List.{List, [], _∷_, _++_}
 use lib.ListN.{length, drop}
+use lib.Seq.{sets}
 use Rattle.filing.specs.declared.Entry.{Entry}
 use Rattle.layout.specs.declared.Writing.the-variants.{Written, Refused}
 use Rattle.register.specs.Run.{lengthAt, passedOf}
 use Rattle.register.specs.First.{freshRegister}
 use Rattle.text.specs.declared.program.Served.{Served}
-use Rattle.text.specs.Text.{decimal, lineOf, longestLine, writeLineOf}
+use Rattle.text.specs.Text.{decimal, lineOf, longestLine, writeLineOf, Put}
 use Rattle.text.specs.Decimal.{valueFrom}
 use Rattle.text.specs.Quoted.{quoted}
 use Rattle.text.specs.Output.{longestInput, turnAt}
-use Rattle.text.specs.Program.{longestText, beginText, beginOf, serveText, serveOf, finishText}
+use Rattle.text.specs.Program.{longestText, beginText, beginOf, serveText, serveOf, finishText, Serves}
 
 -- a number below 10 is its digit; any other has the digits of its tenth, and behind them the digit that is left: of every number of 4 bytes, and of any of ten digits
 pub record DecimalPlain (number : ℕ) : Type 0 where
@@ -58,6 +59,14 @@ pub record StepsPlain (s : Served) (input : List ℕ) : Type 0 where
   pub ends : length input ≤ 65_536 → finishText s input ≡ quoted "end " ++ (decimal (s .met) ++ (quoted " " ++ (decimal (s .refused) ++ quoted "\n")))
   pub endsNot : 65_536 < length input → finishText s input ≡ []
 
+-- what the contracts of the steps say, whatever buffer is lent: all of what has been served, where the text ends, and every byte of the buffer
+pub record ContractsPlain (s r : Served) (input text before after : List ℕ) (at most next : ℕ) : Type 0 where
+  pub served : Serves s input before r after → r ≡ serveOf s input
+  pub buffer : Serves s input before r after → after ≡ sets before 0 (serveText s input)
+  pub ends : Put text at most before next after → next ≡ at + length text
+  pub within : Put text at most before next after → next ≤ at + most
+  pub stored : Put text at most before next after → after ≡ sets before at text
+
 -- the longest line, the longest text of a step, the longest input
 pub record Longest : Type 0 where
   pub line : longestLine ≡ 68
@@ -69,4 +78,5 @@ pub record PlainHolds : Type 0 where
   pub values : (sofar digit : ℕ) (digits : List ℕ) → ValuePlain sofar digit digits
   pub lines : (e : Entry) (account : ℕ) (buffer : List ℕ) → LineWritten e account buffer
   pub steps : (s : Served) (input : List ℕ) → StepsPlain s input
+  pub contracts : (s r : Served) (input text before after : List ℕ) (at most next : ℕ) → ContractsPlain s r input text before after at most next
   pub longest : Longest
