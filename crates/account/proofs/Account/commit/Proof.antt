@@ -4,7 +4,7 @@ use mathlib.Core.Path.{_≡_, ap, _∙_}
 use borrow.Author.Needs.{needs}
 use Rattle.rule.specs.Rule.{commit}
 use Rattle.account.specs.Steps.{refusalIn}
-use Rattle.account.proofs.Places.{as-many}
+use Rattle.account.proofs.Handed.{eight-in-progress, eight-held}
 use Rattle.account.proofs.First.{first-ranged, refusalOf, Taken, Ordered}
 use Rattle.account.proofs.Ordered.{ordered}
 use Rattle.account.proofs.Answered.{judged-answer, answer-refused, answer-order, answer-taken}
@@ -19,7 +19,7 @@ says c =
     let start = c .before .before in
     let a = start .args in
     ap refusalIn (c .answer .ensures)
-    ∙ judged-answer _ first-ranged (a .self) (c .before .judge .result) (as-many (a .self .held) (start .good .0 .1 .1 .1 .1 .1 .0 .1 .0 .1)) (commit (a .transaction) (a .filed)) (c .before .judge .ensures)
+    ∙ judged-answer _ first-ranged (a .self) (c .before .judge .result) (eight-held (a .self) (start .good .0)) (commit (a .transaction) (a .filed)) (c .before .judge .ensures)
 
 -- and past it the account is in order
 taken : (c : tie.After-enum-told) → let a = c .before .before .before .before .args in
@@ -33,7 +33,7 @@ own : (c : tie.After-enum-told) → let a = c .before .before .before .before .a
 own c =
     let start = c .before .before .before .before in
     let a = start .args .self in
-    ordered _ a first-ranged (as-many (a .progress) (start .good .0 .1 .1 .1 .0 .1 .0 .1)) (as-many (a .held) (start .good .0 .1 .1 .1 .1 .1 .0 .1 .0 .1)) (taken c .0)
+    ordered _ a first-ranged (eight-in-progress a (start .good .0)) (eight-held a (start .good .0)) (taken c .0)
 
 judge-requires : tie.Need-judge-requires
 judge-requires c κs = search needs
@@ -69,7 +69,7 @@ returns-2 c =
     let judged = answered .before in
     let start = judged .before in
     let a = start .args in
-    commit-settled _ (a .self) (as-many (a .self .progress) (start .good .0 .1 .1 .1 .0 .1 .0 .1)) (own told) (a .transaction) (a .filed) (taken told .1) (judged .judge .result .event) (judged .judge .ensures .event (taken told .0)) (c .before .noted .result) (c .before .noted .ensures) (c .settle .result) (c .settle .ensures)
+    commit-settled _ (a .self) (eight-in-progress (a .self) (start .good .0)) (own told) (a .transaction) (a .filed) (taken told .1) (judged .judge .result .event) (judged .judge .ensures .event (taken told .0)) (c .before .noted .result) (c .before .noted .ensures) (c .settle .result) (c .settle .ensures)
     ∙ answer-taken _ (a .self) (commit (a .transaction) (a .filed)) (answered .answer .result) (says answered) (told .enum-told .given .1)
 
 pub commit-spec : {M : Type 1} → statement M

@@ -8,7 +8,7 @@ use native.Mathlib.Omega.{arith}
 use lib.ListN.{length}
 use borrow.Author.Needs.{needs}
 use Rattle.filing.specs.Entries.{isAccepted}
-use Rattle.account.proofs.Places.{as-many}
+use Rattle.account.proofs.Handed.{eight-in-progress, eight-held}
 use Rattle.account.proofs.Known.{knows-few}
 use Rattle.account.proofs.First.{first-ranged, Voting}
 use Rattle.account.proofs.Voting.{voting-none, voting-stays, voting-accept, voting-reject, voting-all}
@@ -28,8 +28,8 @@ loop-holds : tie.Need-loop-holds Inv-loop μ-loop
 loop-holds c =
     let start = c .before in
     let a = start .args .self in
-    let size : length (a .progress) ≡ 8 = as-many (a .progress) (start .good .0 .1 .1 .1 .0 .1 .0 .1) in
-    let sizeHeld : length (a .held) ≡ 8 = as-many (a .held) (start .good .0 .1 .1 .1 .1 .1 .0 .1 .0 .1) in
+    let size : length (a .progress) ≡ 8 = eight-in-progress a (start .good .0) in
+    let sizeHeld : length (a .held) ≡ 8 = eight-held a (start .good .0) in
     voting-none _ a (start .args .written) (c .outcomes .result) (start .pre .0) (omega arith) (start .pre .1) (omega arith) (start .pre .2) (c .outcomes .ensures)
 
 mul-slot : tie.Need-mul-slot Inv-loop μ-loop

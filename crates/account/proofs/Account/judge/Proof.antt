@@ -13,7 +13,8 @@ use Rattle.filing.specs.Slots.{places, blank}
 use Rattle.account.specs.Places.{used}
 use Rattle.account.specs.First.{progressLimit, heldLimit}
 use Rattle.account.specs.inside.First.{Knows}
-use Rattle.account.proofs.Places.{as-many, used-more, count-used}
+use Rattle.account.proofs.Handed.{eight-in-progress, eight-held}
+use Rattle.account.proofs.Places.{used-more, count-used}
 use Rattle.account.proofs.Known.{knows-few, knows-end}
 use Rattle.account.proofs.Sought.{sought-here, sought-else}
 use Rattle.account.proofs.First.{EventsPassed, RequestsPassed}
@@ -58,7 +59,7 @@ abbrev μ-loop4 : tie.MeasureT-loop4
 rows : (start : tie.Start Inv-loop μ-loop Inv-loop2 μ-loop2 Inv-loop3 μ-loop3 Inv-loop4 μ-loop4) → (length (start .args .t1 .progress) ≡ places) × (length (start .args .t1 .held) ≡ places)
 rows start =
     let a = start .args .t1 in
-    (as-many (a .progress) (start .good .0 .1 .1 .1 .0 .1 .0 .1), as-many (a .held) (start .good .0 .1 .1 .1 .1 .1 .0 .1 .0 .1))
+    (eight-in-progress a (start .good .0), eight-held a (start .good .0))
 
 -- and the counts are within the limits, so within the places
 limits : (c : tie.Else1 Inv-loop μ-loop Inv-loop2 μ-loop2 Inv-loop3 μ-loop3 Inv-loop4 μ-loop4) → (c .before .before .before .args .t1 .progressing ≤ progressLimit) × (c .before .before .before .args .t1 .holding ≤ heldLimit)

@@ -8,7 +8,8 @@ use borrow.Author.Needs.{needs}
 use Rattle.filing.specs.Slots.{places, blank}
 use Rattle.account.specs.Places.{used}
 use Rattle.account.specs.inside.First.{Knows}
-use Rattle.account.proofs.Places.{as-many, used-more, count-used}
+use Rattle.account.proofs.Handed.{eight-in-progress}
+use Rattle.account.proofs.Places.{used-more, count-used}
 use Rattle.account.proofs.Known.{knows-few}
 use Rattle.account.proofs.Account.outcomes.Statement.{statement}
 use Rattle.account.proofs.Account.outcomes.Tie as tie
@@ -21,7 +22,7 @@ abbrev μ-loop : tie.MeasureT-loop
 
 -- the row has all its places
 many : (start : tie.Start Inv-loop μ-loop) → length (start .args .t1 .progress) ≡ places
-many start = as-many (start .args .t1 .progress) (start .good .0 .1 .1 .1 .0 .1 .0 .1)
+many start = eight-in-progress (start .args .t1) (start .good .0)
 
 of-requires : tie.Need-of-requires Inv-loop μ-loop
 of-requires c κs = search needs

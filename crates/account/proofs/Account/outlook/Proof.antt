@@ -11,7 +11,7 @@ use Rattle.filing.specs.Slots.{places}
 use Rattle.account.specs.declared.question.Reached.{Reached}
 use Rattle.account.specs.Places.{used}
 use Rattle.account.specs.First.{inOrderOf}
-use Rattle.account.proofs.Places.{as-many}
+use Rattle.account.proofs.Handed.{eight-in-progress}
 use Rattle.account.proofs.First.{reachedBehind}
 use Rattle.account.proofs.Clauses.{clauses}
 use Rattle.account.proofs.Slices.{usedFrom}
@@ -29,7 +29,7 @@ abbrev μ-loop : tie.MeasureT-loop
 
 -- the row has all its places,
 many : (start : tie.Start Inv-loop μ-loop) → length (start .args .t1 .progress) ≡ places
-many start = as-many (start .args .t1 .progress) (start .good .0 .1 .1 .1 .0 .1 .0 .1)
+many start = eight-in-progress (start .args .t1) (start .good .0)
 
 -- and the account is in order
 in-order : (c : tie.Else1 Inv-loop μ-loop) → inOrderOf (c .before .before .args .t1) ≡ true

@@ -9,7 +9,7 @@ use Rattle.rule.specs.Rule.{request, voted}
 use Rattle.filing.specs.Entries.{isAccepted, weighingOf, entryOf, onlyEntry}
 use Rattle.account.specs.Places.{listsOf}
 use Rattle.account.specs.Steps.{refusalIn}
-use Rattle.account.proofs.Places.{as-many}
+use Rattle.account.proofs.Handed.{eight-in-progress, eight-held}
 use Rattle.account.proofs.First.{first-ranged, refusalOf, Weighed}
 use Rattle.account.proofs.Asked.{request-weighed, asked-accept, asked-reject, asked-hold}
 use Rattle.account.proofs.Answered.{judged-answer, answer-refused, answer-order, answer-taken}
@@ -23,7 +23,7 @@ says c =
     let start = c .before .before in
     let a = start .args in
     ap refusalIn (c .answer .ensures)
-    ∙ judged-answer _ first-ranged (a .self) (c .before .judge .result) (as-many (a .self .held) (start .good .0 .1 .1 .1 .1 .1 .0 .1 .0 .1)) (request (a .transaction) (a .filed) (a .event)) (c .before .judge .ensures)
+    ∙ judged-answer _ first-ranged (a .self) (c .before .judge .result) (eight-held (a .self) (start .good .0)) (request (a .transaction) (a .filed) (a .event)) (c .before .judge .ensures)
 
 judge-requires : tie.Need-judge-requires
 judge-requires c κs = search needs
@@ -57,8 +57,8 @@ weighed c =
     let judged = answered .before in
     let start = judged .before in
     let a = start .args in
-    let size = as-many (a .self .progress) (start .good .0 .1 .1 .1 .0 .1 .0 .1) in
-    let sizeHeld = as-many (a .self .held) (start .good .0 .1 .1 .1 .1 .1 .0 .1 .0 .1) in
+    let size = eight-in-progress (a .self) (start .good .0) in
+    let sizeHeld = eight-held (a .self) (start .good .0) in
     let message = request (a .transaction) (a .filed) (a .event) in
     let taken = answer-order _ (a .self) message (answered .answer .result) (says answered) (told .enum-told .given .1) in
     let found = judged .judge in

@@ -12,7 +12,7 @@ use Rattle.events.specs.declared.State.{State}
 use Rattle.filing.specs.Entries.{entryOf, onlyEntry}
 use Rattle.filing.specs.Slots.{committedSlot, blank}
 use Rattle.account.specs.inside.Taken.{markedAt}
-use Rattle.account.proofs.Places.{as-many}
+use Rattle.account.proofs.Handed.{eight-in-progress}
 use Rattle.account.proofs.First.{Applying}
 use Rattle.account.proofs.Applying.{applying-none, applying-stays, applying-next, applying-all}
 use Rattle.account.proofs.Voting.{drained-taken, drained-idle}
@@ -50,7 +50,7 @@ loop-holds c =
     let start = join .before in
     let a = start .args in
     let row = a .self .progress in
-    let size : length row ≡ 8 = as-many row (start .good .0 .1 .1 .1 .0 .1 .0 .1) in
+    let size : length row ≡ 8 = eight-in-progress (start .args .self) (start .good .0) in
     ⊎-elim
     (λ w. rw (w .3) (
       ap (set row (a .marked)) (w .2 .ensures),
@@ -149,7 +149,7 @@ returns c =
     let start = join .before in
     let a = start .args in
     let v = way .loop in
-    let size : length (a .self .progress) ≡ 8 = as-many (a .self .progress) (start .good .0 .1 .1 .1 .0 .1 .0 .1) in
+    let size : length (a .self .progress) ≡ 8 = eight-in-progress (a .self) (start .good .0) in
     let drain = drained .drain in
     applying-all _ (a .self) (a .marked) (a .first) (join .if1 .next .progress) (onlyEntry (a .first)) (v .next) (v .entries) (v .state) (v .ended) (v .at) (v .inv .1) (omega arith) (v .inv .0) size refl _ (drained-taken _ _ (v .entries) (drain .result) (drain .ensures))
 
@@ -160,7 +160,7 @@ returns-2 c =
     let start = join .before in
     let a = start .args in
     let v = way .loop in
-    let size : length (a .self .progress) ≡ 8 = as-many (a .self .progress) (start .good .0 .1 .1 .1 .0 .1 .0 .1) in
+    let size : length (a .self .progress) ≡ 8 = eight-in-progress (a .self) (start .good .0) in
     applying-all _ (a .self) (a .marked) (a .first) (join .if1 .next .progress) (onlyEntry (a .first)) (v .next) (v .entries) (v .state) (v .ended) (v .at) (v .inv .1) (omega arith) (v .inv .0) size refl _ (drained-idle _ _ (v .entries) (omega arith))
 
 pub settle-spec : {M : Type 1} → statement M

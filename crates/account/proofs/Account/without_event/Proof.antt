@@ -6,7 +6,7 @@ use mathlib.Core.Logic.{⊎-elim}
 use borrow.Author.Needs.{needs}
 use native.Mathlib.Omega.{arith}
 use lib.ListN.{length}
-use Rattle.account.proofs.Places.{as-many}
+use Rattle.account.proofs.Handed.{eight-in-progress}
 use Rattle.account.proofs.TakenOut.{TakingOut, out-none, out-gone, out-kept, out-all}
 use Rattle.account.proofs.Padded.{progress-row, held-row, state-is, account-is}
 use Rattle.account.proofs.Account.without_event.Statement.{statement}
@@ -24,7 +24,7 @@ abbrev μ-loop : tie.MeasureT-loop
 loop-holds : tie.Need-loop-holds Inv-loop μ-loop
 loop-holds c =
     let a = c .args .self in
-    let size : length (a .progress) ≡ 8 = as-many (a .progress) (c .good .0 .1 .1 .1 .0 .1 .0 .1) in
+    let size : length (a .progress) ≡ 8 = eight-in-progress a (c .good .0) in
     (omega arith, out-none (c .args .transaction) (a .progress), (refl, refl, refl))
 
 mul-slot : tie.Need-mul-slot Inv-loop μ-loop
