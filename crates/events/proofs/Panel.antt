@@ -2,7 +2,7 @@
 -- Assumes nothing.
 use Prim.Native.Nat.{ℕ, _+_, _-_, _≤_}
 use mathlib.Core.Path.{_≡_, refl, sym, _∙_, ap}
-use mathlib.Core.Bool.{Bool, true, cond, _&&_}
+use mathlib.Core.Bool.{Bool, true, false, cond, _&&_}
 use mathlib.Core.List.{List, [], _∷_}
 use native.Mathlib.Omega.{arith}
 use lib.Dec.{leb, eqb}
@@ -34,6 +34,21 @@ table-fits (Deposit a) s g h =
     (and-left (isOpened (s .life)) (leb 1 a) (and-left (isOpened (s .life) && leb 1 a) (leb (s .balance + a) limit) g))
     (leb-true (s .balance + a) limit (and-right (isOpened (s .life) && leb 1 a) (leb (s .balance + a) limit) g))
 table-fits Close s g h = refl
+
+-- an effect keeps a balance within the limit, whether its guard holds or not
+table-kept : (e : Event) (s : State) → guardOf e s ≡ true → s .balance ≤ limit → tableEffect e s .balance ≤ limit
+table-kept (Open a) s g h = leb-true a limit (and-right (isNew (s .life)) (leb a limit) g)
+table-kept (Withdraw a) s g h = omega arith
+table-kept (Deposit a) s g h = leb-true (s .balance + a) limit (and-right (isOpened (s .life) && leb 1 a) (leb (s .balance + a) limit) g)
+table-kept Close s g h = omega arith
+
+pub balance-kept : (e : Event) (s : State) → s .balance ≤ limit → effectOf e s .balance ≤ limit
+unfolding effectOf
+balance-kept e s h = go (guardOf e s) refl
+  where
+    go : (b : Bool) → guardOf e s ≡ b → cond b (tableEffect e s) s .balance ≤ limit
+    go true q = table-kept e s q h
+    go false q = h
 
 module _ (progressLimit heldLimit : ℕ) where
   -- a run that leads to each state in order: none, an Open, an Open and a Close
