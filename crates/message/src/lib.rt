@@ -128,6 +128,13 @@ fn kind_of(message: Message) -> u8
     }
 }
 
+// The number of the account that a message names.
+pub fn account_of(message: Message) -> u16
+    ensures { λ r. ⌜ r ≡ headingOf message .account ⌝ }
+{
+    heading_of(message).account
+}
+
 // The heading of a message.
 fn heading_of(message: Message) -> Heading
     ensures { λ r. ⌜ r ≡ headingOf message ⌝ }

@@ -64,7 +64,7 @@ impl Register {
     pub fn send(self, message: Message) -> Sent
         ensures { λ r. ⌜ r ≡ sentOf self message ⌝ }
     {
-        let number = numbers::account_of(message);
+        let number = message::account_of(message);
         if layout::LAST_ACCOUNT < number {
             return self.not_sent(Answer::Refused(3));
         }
@@ -99,7 +99,7 @@ impl Register {
         let Answer::Taken = answer else {
             return self.unchanged(numbers::refusal_of_step(answer));
         };
-        let writing = entry::write_entries(sent.entries, numbers::account_of(message), buffer);
+        let writing = entry::write_entries(sent.entries, message::account_of(message), buffer);
         let Writing::Written(written) = writing else {
             return self.unchanged(4);
         };

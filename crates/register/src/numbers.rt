@@ -1,21 +1,8 @@
-// The numbers of a message's account and of refusals.
+// The numbers of refusals.
 use account::Answer;
-use message::Message;
 use message::Reading;
 ghost use mathlib.Core.Path.{_≡_};
-ghost use Rattle.message.specs.Bytes.{headingOf};
 ghost use Rattle.register.specs.Helpers.{readingNumber, stepNumber};
-
-// The number of the account that a message names.
-pub(crate) fn account_of(message: Message) -> u16
-    ensures { λ r. ⌜ r ≡ headingOf message .account ⌝ }
-{
-    match message {
-        Message::Request(heading, _) => heading.account,
-        Message::Commit(heading) => heading.account,
-        Message::Abort(heading) => heading.account,
-    }
-}
 
 // The number of the reader's refusal; 0 where it gave a message.
 pub(crate) fn refusal_of_reading(reading: Reading) -> u8

@@ -1,7 +1,6 @@
 // One message: it is sent to the register, and the lines of its entries, or that of its refusal, are stored at the beginning of a buffer.
 ghost use mathlib.Core.Path.{_≡_};
 ghost use Prim.Native.Nat.{min};
-ghost use Rattle.message.specs.Bytes.{headingOf};
 ghost use Rattle.entry.specs.Bytes.{listOf};
 ghost use Rattle.text.specs.Text.{linesOf, Put};
 ghost use Rattle.text.specs.Output.{refusedTurn, sentTurn, readTurn};
@@ -10,7 +9,6 @@ ghost use Rattle.text.specs.Turned.{Turns};
 use crate::line;
 use account::Answer;
 use filing::Entries;
-use message::Message;
 use message::Reading;
 use register::Register;
 use register::Reply;
@@ -31,7 +29,7 @@ pub(crate) fn read_turn(register: Register, reading: Reading, out: &mut [u8]) ->
         Reading::Refused(number) => refused_turn(register, number, out),
         Reading::Message(message, consumed) => {
             let sent = register.send(message);
-            sent_turn(sent, account_of(message), consumed, out)
+            sent_turn(sent, message::account_of(message), consumed, out)
         }
     }
 }
@@ -89,15 +87,4 @@ fn least(one: usize, other: usize) -> usize
     ensures { λ r. ⌜ r ≡ min one other ⌝ }
 {
     if one < other { one } else { other }
-}
-
-// The number of the account that a message names.
-fn account_of(message: Message) -> u16
-    ensures { λ r. ⌜ r ≡ headingOf message .account ⌝ }
-{
-    match message {
-        Message::Request(heading, _) => heading.account,
-        Message::Commit(heading) => heading.account,
-        Message::Abort(heading) => heading.account,
-    }
 }
