@@ -116,8 +116,26 @@ fn disordered(outcomes: Outcomes, slot: Slot, event: usize, request: usize) -> J
     }
 }
 
-// Whether the first transactions, so many of them, all differ (6.4).
+// Whether the first transactions, so many of them, all differ (6.4). Numbers that rise do, and the youngest transaction mostly has the highest: only where they do not rise is every pair looked at.
 fn differ(transactions: &[u32; Account::BOTH], count: usize) -> bool
+    requires { ⌜ (count ≤ bothRows) × (length (now transactions) ≡ bothRows) ⌝ }
+    ensures { λ r. ⌜ r ≡ allDiffer (take count (now (transactions .entry))) ⌝ }
+{
+    let mut at = count;
+    let mut lowest = 4_294_967_295;
+    while 0 < at {
+        at -= 1;
+        let here = transactions[at];
+        if lowest <= here {
+            return pairs_differ(transactions, count);
+        }
+        lowest = here;
+    }
+    true
+}
+
+// The same, pair by pair.
+fn pairs_differ(transactions: &[u32; Account::BOTH], count: usize) -> bool
     requires { ⌜ (count ≤ bothRows) × (length (now transactions) ≡ bothRows) ⌝ }
     ensures { λ r. ⌜ r ≡ allDiffer (take count (now (transactions .entry))) ⌝ }
 {

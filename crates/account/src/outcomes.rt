@@ -38,24 +38,23 @@ impl Outcomes {
         }
     }
 
-    // The outcomes with one event more in progress, the newest.
+    // The outcomes with one event more in progress, the newest. Its guard is asked on each way, next to what it does to the range: the compiler takes the event apart once for both.
     pub(crate) fn with(self, event: Event, decision: Decision) -> Outcomes
         requires { ⌜ self .number ≤ 128 ⌝ }
         ensures { λ r. ⌜ ((s : State) (xs : List RuleSlot) (t : ℕ) (g : Filed) → Knows s xs self → Knows s (xs ++ (slot t g event (decisionOf decision) ∷ [])) r) ⌝ }
     {
         let range = self.range;
-        let guarded = self.guarded & range.every(event);
         if decision.is_undecided() {
             Outcomes {
+                guarded: self.guarded & range.every(event),
                 range: range.perhaps(event),
                 number: self.number + self.number,
-                guarded,
             }
         } else {
             Outcomes {
+                guarded: self.guarded & range.every(event),
                 range: range.after(event),
                 number: self.number,
-                guarded,
             }
         }
     }

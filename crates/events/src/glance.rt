@@ -4,11 +4,13 @@ use crate::Life;
 use crate::Range;
 use crate::State;
 use crate::condition::Condition;
+use crate::less;
+use crate::more;
 ghost use mathlib.Core.Path.{_≡_};
 ghost use mathlib.Core.Bool.{cond};
 ghost use Prim.Native.Nat.{min, max};
 ghost use Rattle.events.specs.declared.Life.the-variants.{Opened};
-ghost use Rattle.events.specs.Range.{rangeOfOne, joined, storedAfter, storedPerhaps, everyIn, someIn};
+ghost use Rattle.events.specs.Range.{rangeOfOne, storedAfter, storedPerhaps, everyIn, someIn};
 
 impl Range {
     // The range of one outcome.
@@ -63,23 +65,41 @@ impl Range {
         }
     }
 
-    // The range with an event that is applied in one half of the outcomes.
+    // The range with an event that is applied in one half of the outcomes: in one look at the event, what it adds to the range as it is.
     pub fn perhaps(self, event: Event) -> Range
         ensures { λ r. ⌜ r ≡ storedPerhaps event self ⌝ }
     {
-        self.joined(self.after(event))
-    }
-
-    // The range of the outcomes of both.
-    fn joined(self, other: Range) -> Range
-        ensures { λ r. ⌜ r ≡ joined self other ⌝ }
-    {
-        Range {
-            lowest: lowest_of(self.opened, self.lowest, other.opened, other.lowest),
-            highest: higher(self.highest, other.highest),
-            new: self.new | other.new,
-            opened: self.opened | other.opened,
-            closed: self.closed | other.closed,
+        let counts = self.opened;
+        let lowest = self.lowest;
+        match event {
+            Event::Open(amount) => Range {
+                lowest: either(counts, lower(lowest, amount), amount),
+                highest: higher(self.highest, amount),
+                new: self.new,
+                opened: true,
+                closed: self.closed,
+            },
+            Event::Withdraw(amount) => Range {
+                lowest: less(lowest, amount),
+                highest: self.highest,
+                new: self.new,
+                opened: true,
+                closed: self.closed,
+            },
+            Event::Deposit(amount) => Range {
+                lowest: either(counts, lowest, more(lowest, amount)),
+                highest: more(self.highest, amount),
+                new: self.new,
+                opened: true,
+                closed: self.closed,
+            },
+            Event::Close => Range {
+                lowest: if_opened(counts, lowest),
+                highest: self.highest,
+                new: self.new,
+                opened: counts,
+                closed: true,
+            },
         }
     }
 }
@@ -101,15 +121,11 @@ fn if_opened(opened: bool, balance: u32) -> u32
     if opened { balance } else { 0 }
 }
 
-// The lower of two lowest balances, each of which counts where it says so; the other one where neither does.
-fn lowest_of(counts: bool, one: u32, also: bool, other: u32) -> u32
-    ensures { λ r. ⌜ r ≡ cond counts (cond also (min one other) one) other ⌝ }
+// The one balance where it counts, else the other.
+fn either(counts: bool, one: u32, other: u32) -> u32
+    ensures { λ r. ⌜ r ≡ cond counts one other ⌝ }
 {
-    if counts {
-        if also { lower(one, other) } else { one }
-    } else {
-        other
-    }
+    if counts { one } else { other }
 }
 
 // The lower of two.

@@ -193,7 +193,7 @@ impl Life {
 }
 
 // The balance less an amount; 0 where the amount is more.
-fn less(balance: u32, amount: u32) -> u32
+pub(crate) fn less(balance: u32, amount: u32) -> u32
     ensures { λ r. ⌜ r ≡ balance - amount ⌝ }
 {
     if amount <= balance {
@@ -204,7 +204,7 @@ fn less(balance: u32, amount: u32) -> u32
 }
 
 // The balance and an amount; the balance alone where they are too many for four bytes.
-fn more(balance: u32, amount: u32) -> u32
+pub(crate) fn more(balance: u32, amount: u32) -> u32
     ensures { λ r. ⌜ r ≡ cond (leb (balance + amount) most) (balance + amount) balance ⌝ }
 {
     if balance <= Condition::MOST - amount {

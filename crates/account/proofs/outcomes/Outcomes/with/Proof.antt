@@ -9,11 +9,11 @@ use borrow.Author.Needs.{needs}
 use Rattle.account.proofs.outcomes.Outcomes.with.Statement.{statement}
 use Rattle.account.proofs.outcomes.Outcomes.with.Tie as tie
 
-every-requires : tie.Need-every-requires
-every-requires c κs = search needs
-
 is-undecided-requires : tie.Need-is-undecided-requires
 is-undecided-requires c κs = search needs
+
+every-requires : tie.Need-every-requires
+every-requires c κs = search needs
 
 perhaps-requires : tie.Need-perhaps-requires
 perhaps-requires c κs = search needs
@@ -21,37 +21,43 @@ perhaps-requires c κs = search needs
 add-t10 : tie.Need-add-t10
 add-t10 c = search needs
 
+every-requires-2 : tie.Need-every-requires-2
+every-requires-2 c κs = search needs
+
 after-requires : tie.Need-after-requires
 after-requires c κs = search needs
 
 returns : tie.Need-returns
 returns c =
-    let tested = c .before .before in
-    let asked = tested .before .before .before in
-    let a = asked .before .before .args in
+    let asked = c .before .before .before in
+    let tested = asked .before in
+    let start = tested .before .before .before in
+    let a = start .args in
     λ s xs t g k.
     knows-perhaps _ first-ranged s xs (a .self) k t g (a .event) (a .decision) (c .before .perhaps .result) (asked .every .result) (asked .every .ensures)
     (sym (tested .before .is-undecided .ensures) ∙ tested .if1 .taken)
-    (λ ordered all. c .before .perhaps .ensures ∙ stored-perhaps (a .event) (a .self .range) ordered (omega (arith, asked .before .before .good)) all)
+    (λ ordered all. c .before .perhaps .ensures ∙ stored-perhaps (a .event) (a .self .range) ordered (omega (arith, start .good)) all)
 
 returns-2 : tie.Need-returns-2
 returns-2 c =
-    let tested = c .before in
-    let asked = tested .before .before .before in
-    let a = asked .before .before .args in
+    let asked = c .before .before in
+    let tested = asked .before in
+    let start = tested .before .before .before in
+    let a = start .args in
     λ s xs t g k.
-    knows-after _ first-ranged s xs (a .self) k t g (a .event) (a .decision) (c .after .result) (asked .every .result) (asked .every .ensures)
+    knows-after _ first-ranged s xs (a .self) k t g (a .event) (a .decision) (c .after .result) (asked .every2 .result) (asked .every2 .ensures)
     (sym (tested .before .is-undecided .ensures) ∙ tested .if1 .left)
-    (λ ordered all. c .after .ensures ∙ stored-after (a .event) (a .self .range) ordered (omega (arith, asked .before .before .good)) all)
+    (λ ordered all. c .after .ensures ∙ stored-after (a .event) (a .self .range) ordered (omega (arith, start .good)) all)
 
 pub with-spec : {M : Type 1} → statement M
 with-spec =
     tie.close
     (tie.spec
-    every-requires
     is-undecided-requires
+    every-requires
     perhaps-requires
     add-t10
+    every-requires-2
     after-requires
     returns
     returns-2)
