@@ -33,8 +33,15 @@ pub fn call_image(image: &mut [u32], bytes: &[u8], buffer: &mut [u8]) -> Reply
             let answer = stepped.answer;
             let made = stepped.entries;
             let vote = made.at[0];
-            let next = stepped.account;
-            finish_vote(image, buffer, heading.account, consumed, answer, vote, next)
+            finish_vote(
+                image,
+                buffer,
+                heading.account,
+                consumed,
+                answer,
+                vote,
+                stepped.account,
+            )
         }
         Message::Commit(heading) => {
             let filed = heading.filed;
@@ -66,13 +73,11 @@ fn finish(
     let Answer::Taken = answer else {
         return Reply::Refused(numbers::of_step(answer));
     };
-    let made = stepped.entries;
-    let writing = entry::write_entries(made, account, buffer);
+    let writing = entry::write_entries(stepped.entries, account, buffer);
     let Writing::Written(written) = writing else {
         return Reply::Refused(4);
     };
-    let next = stepped.account;
-    image::put_account(image, numbers::word_at(account), next);
+    image::put_account(image, numbers::word_at(account), stepped.account);
     Reply::Taken(consumed, written)
 }
 

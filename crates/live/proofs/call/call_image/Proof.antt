@@ -96,9 +96,9 @@ request-requires c κs = search needs
 element-copy-out-vote : tie.Need-element-copy-out-vote
 element-copy-out-vote c = omega arith
 
--- from the account that follows back to its step
-abbrev requested-step : tie.After-next → tie.After-request
-requested-step c = c .before .before .before
+-- from its vote back to its step
+abbrev requested-step : tie.After-vote → tie.After-request
+requested-step c = c .before .before
 
 finish-vote-requires : tie.Need-finish-vote-requires
 finish-vote-requires c κs =
