@@ -2,15 +2,18 @@
 -- Assumes nothing.
 use Prim.Native.Nat.{ℕ, _≤_, _<_}
 use native.Mathlib.Omega.{arith}
-use mathlib.Core.Path.{_≡_, refl, ap, _∙_}
+use mathlib.Core.Path.{_≡_, refl, ap, sym, _∙_}
 use mathlib.Core.List.{List}
 use borrow.Author.Tests.{lt-ltb, le-ltb}
-use lib.ListN.{length}
+use lib.ListN.{length, getD}
 use lib.Seq.{getD-set-same}
-use Rattle.rule.specs.Rule.{Rule}
+use Rattle.rule.specs.Rule.{Rule, request}
 use Rattle.events.specs.declared.Event.{Event}
 use Rattle.events.specs.declared.State.{State}
+use Rattle.filing.specs.declared.Filed.{Filed}
+use Rattle.filing.specs.declared.Entry.{Entry}
 use Rattle.filing.specs.declared.Entries.{Entries}
+use Rattle.filing.specs.Entries.{onlyEntry}
 use Rattle.account.specs.declared.Account.{Account}
 use Rattle.account.specs.declared.Answer.{Answer}
 use Rattle.account.specs.declared.Answer.the-variants as Answer′
@@ -31,10 +34,11 @@ use Rattle.register.specs.declared.Reply.{Reply}
 use Rattle.register.specs.declared.Reply.the-variants.{Refused, Taken}
 use Rattle.register.specs.Register.{accountsOfRegister, nowhere, ruleMessage, sentAs, sentBy}
 use Rattle.register.specs.Call.{Result, refusedWith, wroteOf, afterMessage, calledBy}
-use Rattle.register.specs.Helpers.{readingNumber, stepNumber, Fitting}
+use Rattle.register.specs.Helpers.{readingNumber, stepNumber, Filing, filedOf, Fitting}
 use Rattle.register.proofs.ReadAs.{read-as, account-read}
 use Rattle.register.proofs.Suits.{Suits}
 use Rattle.register.proofs.Sending.{step-bytes}
+use Rattle.register.proofs.Votes.{vote-filed}
 use Rattle.register.proofs.Writes.{bytes-written, bytes-left}
 use Rattle.live.specs.Registers.{wordAt, registerOf}
 use Rattle.live.specs.Live.{Live, imageAfter, liveBy}
@@ -78,6 +82,20 @@ module _ (image buffer : List ℕ) (i consumed : ℕ) (stepped : Stepped) where
   answer-taken fits w n last from stored f p z b h k =
       let t = bytes-written (stepped .entries) i buffer fits w n p z in
       (rw (f, t) refl, k ∙ rw (f, h) refl, bytes-left (stepped .entries) i buffer fits last b ∙ rw f refl)
+
+-- of a request its vote alone: what is filed of it is what is filed of its entries
+module _ (image buffer : List ℕ) (i consumed : ℕ) (next : Account) (one all : Entries) where
+  alone-is : (answer : Answer) → filedOf answer one i consumed buffer ≡ filedOf answer all i consumed buffer
+      → finishedBy image buffer i consumed answer next one ≡ finishedBy image buffer i consumed answer next all
+  alone-is (Answer′.Refused n) e = refl
+  alone-is Answer′.Taken e = ap (λ (f : Filing). record { reply = f .reply; image = storedIn image (wordAt i) next; buffer = f .buffer }) e
+
+pub vote-finished : (R : Rule State Event ℕ) (a : Account) (t : ℕ) (g : Filed) (e : Event) (past : Entry) (image buffer : List ℕ) (i consumed : ℕ) (stepped : Stepped)
+    → stepped ≡ stepBy R a (request t g e)
+    → finishedOf image buffer i consumed stepped ≡ finishedBy image buffer i consumed (stepped .answer) (stepped .account) (onlyEntry (getD (stepped .entries .at) 0 past))
+vote-finished R a t g e past image buffer i consumed stepped s =
+    let alone = vote-filed R a t g e past i consumed buffer stepped s in
+    sym (alone-is image buffer i consumed (stepped .account) (onlyEntry (getD (stepped .entries .at) 0 past)) (stepped .entries) (stepped .answer) alone)
 
 module _ (R : Rule State Event ℕ) (image bytes buffer : List ℕ) where
   pub live-refused : (n : ℕ) → calledBy R (registerOf image) bytes buffer ≡ refusedWith (registerOf image) buffer n → liveBy R image bytes buffer ≡ refusedLive image buffer n

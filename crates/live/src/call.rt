@@ -1,15 +1,18 @@
 // One call on an image (docs/REGISTER.md, 15.6): the message is read, the account that it names steps, its entries are written, and its words are stored.
 use crate::numbers;
+use account::Account;
 use account::Answer;
 use account::Stepped;
+use filing::Entry;
 use layout::Writing;
 use message::Message;
 use message::Reading;
 use register::Reply;
 ghost use mathlib.Core.Path.{_≡_};
+ghost use Rattle.filing.specs.Entries.{onlyEntry};
 ghost use Rattle.register.specs.Helpers.{Fitting};
 ghost use Rattle.live.specs.First.{liveOf};
-ghost use Rattle.live.specs.Helpers.{finishedOf};
+ghost use Rattle.live.specs.Helpers.{finishedBy, finishedOf};
 
 // The call. Each kind has its own arm: of three steps made one value, the compiler takes the entries apart place by place.
 pub fn call_image(image: &mut [u32], bytes: &[u8], buffer: &mut [u8]) -> Reply
@@ -27,7 +30,18 @@ pub fn call_image(image: &mut [u32], bytes: &[u8], buffer: &mut [u8]) -> Reply
             let filed = heading.filed;
             let account = image::read_account(image, numbers::word_at(heading.account));
             let stepped = account.request(heading.transaction, filed, event);
-            finish(image, buffer, heading.account, consumed, stepped)
+            let answer = stepped.answer;
+            let made = stepped.entries;
+            let vote = made.at[0];
+            finish_vote(
+                image,
+                buffer,
+                heading.account,
+                consumed,
+                answer,
+                vote,
+                stepped.account,
+            )
         }
         Message::Commit(heading) => {
             let filed = heading.filed;
@@ -59,12 +73,34 @@ fn finish(
     let Answer::Taken = answer else {
         return Reply::Refused(numbers::of_step(answer));
     };
-    let made = stepped.entries;
-    let writing = entry::write_entries(made, account, buffer);
+    let writing = entry::write_entries(stepped.entries, account, buffer);
     let Writing::Written(written) = writing else {
         return Reply::Refused(4);
     };
-    let next = stepped.account;
+    image::put_account(image, numbers::word_at(account), stepped.account);
+    Reply::Taken(consumed, written)
+}
+
+// The same of a request, whose vote is its only entry: it is handed on without the places that it leaves blank.
+fn finish_vote(
+    image: &mut [u32],
+    buffer: &mut [u8],
+    account: u16,
+    consumed: usize,
+    answer: Answer,
+    vote: Entry,
+    next: Account,
+) -> Reply
+    requires { ⌜ Fitting (onlyEntry vote) account (now buffer) ⌝ }
+    ensures { λ r. ⌜ (r ≡ finishedBy (now (image .entry)) (now (buffer .entry)) account consumed answer next (onlyEntry vote) .reply) × (now (image .exit) ≡ finishedBy (now (image .entry)) (now (buffer .entry)) account consumed answer next (onlyEntry vote) .image) × (now (buffer .exit) ≡ finishedBy (now (image .entry)) (now (buffer .entry)) account consumed answer next (onlyEntry vote) .buffer) ⌝ }
+{
+    let Answer::Taken = answer else {
+        return Reply::Refused(numbers::of_step(answer));
+    };
+    let writing = entry::write_entry(vote, account, buffer);
+    let Writing::Written(written) = writing else {
+        return Reply::Refused(4);
+    };
     image::put_account(image, numbers::word_at(account), next);
     Reply::Taken(consumed, written)
 }

@@ -5,8 +5,10 @@ use Rattle.message.specs.declared.Message.{Message}
 use Rattle.message.specs.declared.Message.the-variants.{Request, Commit, Abort}
 use Rattle.message.specs.declared.Reading.the-variants as Reading′
 use Rattle.image.specs.Reading.{accountFrom}
+use native.Mathlib.Omega.{arith}
 use Rattle.register.proofs.Suits.{first-suits}
-use Rattle.live.proofs.Finished.{gives, live-unread, live-roomless, Named, live-finished, finish-fits}
+use Rattle.register.proofs.Votes.{one-fits}
+use Rattle.live.proofs.Finished.{gives, live-unread, live-roomless, Named, live-finished, finish-fits, vote-finished}
 use borrow.Author.Needs.{needs}
 use Rattle.live.proofs.call.call_image.Statement.{statement}
 use Rattle.live.proofs.call.call_image.Tie as tie
@@ -91,13 +93,17 @@ requested c =
 request-requires : tie.Need-request-requires
 request-requires c κs = search needs
 
-finish-requires : tie.Need-finish-requires
-finish-requires c κs =
-    let stepped = c .before .before in
-    let read = stepped .before in
-    let a = began (reading-of (requested-read read)) .args in
-    finish-fits _ (a .image .now) (a .bytes .now) (a .buffer .now) (requested-sent read) (requested-read read .reading .given .0 .1 .0) (read .read-account .result) (requested read)
-    (stepped .request .result) (stepped .request .ensures) first-suits
+element-copy-out-vote : tie.Need-element-copy-out-vote
+element-copy-out-vote c = omega arith
+
+-- from its vote back to its step
+abbrev requested-step : tie.After-vote → tie.After-request
+requested-step c = c .before .before
+
+finish-vote-requires : tie.Need-finish-vote-requires
+finish-vote-requires c κs =
+    let read = requested-step (c .before .before) .before in
+    one-fits _ _ _ (requested read .room)
 
 enum-known-message-2 : tie.Need-enum-known-message-2
 enum-known-message-2 c = search needs
@@ -136,8 +142,8 @@ committed c =
 commit-requires : tie.Need-commit-requires
 commit-requires c κs = search needs
 
-finish-requires-2 : tie.Need-finish-requires-2
-finish-requires-2 c κs =
+finish-requires : tie.Need-finish-requires
+finish-requires c κs =
     let stepped = c .before .before in
     let read = stepped .before in
     let a = began (reading-of (committed-read read)) .args in
@@ -181,8 +187,8 @@ aborted c =
 abort-requires : tie.Need-abort-requires
 abort-requires c κs = search needs
 
-finish-requires-3 : tie.Need-finish-requires-3
-finish-requires-3 c κs =
+finish-requires-2 : tie.Need-finish-requires-2
+finish-requires-2 c κs =
     let stepped = c .before .before in
     let read = stepped .before in
     let a = began (reading-of (aborted-read read)) .args in
@@ -198,13 +204,14 @@ same-length-2 c = search needs
 returns-3 : tie.Need-returns-3
 returns-3 c =
     let finished = c .before .before .before .before in
-    let stepped = finished .before .before .before in
+    let stepped = requested-step (finished .before .before .before) in
     let read = stepped .before in
     let a = began (reading-of (requested-read read)) .args in
     gives
     (live-finished _ (a .image .now) (a .bytes .now) (a .buffer .now) (requested-sent read) (requested-read read .reading .given .0 .1 .0) (read .read-account .result) (requested read)
-    (stepped .request .result) (stepped .request .ensures))
-    _ _ _ (finished .finish .ensures)
+    (stepped .request .result) (stepped .request .ensures)
+    ∙ vote-finished _ _ _ _ _ _ (a .image .now) (a .buffer .now) _ _ (stepped .request .result) (stepped .request .ensures))
+    _ _ _ (finished .finish-vote .ensures)
 
 same-length-3 : tie.Need-same-length-3
 same-length-3 c = search needs
@@ -221,7 +228,7 @@ returns-4 c =
     gives
     (live-finished _ (a .image .now) (a .bytes .now) (a .buffer .now) (committed-sent read) (committed-read read .reading .given .0 .1 .0) (read .read-account2 .result) (committed read)
     (stepped .commit .result) (stepped .commit .ensures))
-    _ _ _ (finished .finish2 .ensures)
+    _ _ _ (finished .finish .ensures)
 
 same-length-5 : tie.Need-same-length-5
 same-length-5 c = search needs
@@ -238,7 +245,7 @@ returns-5 c =
     gives
     (live-finished _ (a .image .now) (a .bytes .now) (a .buffer .now) (aborted-sent read) (aborted-read read .reading .given .0 .1 .0) (read .read-account3 .result) (aborted read)
     (stepped .abort .result) (stepped .abort .ensures))
-    _ _ _ (finished .finish3 .ensures)
+    _ _ _ (finished .finish2 .ensures)
 
 pub call-image-spec : {M : Type 1} → statement M
 call-image-spec =
@@ -254,17 +261,18 @@ call-image-spec =
     word-at-requires
     read-account-requires
     request-requires
-    finish-requires
+    element-copy-out-vote
+    finish-vote-requires
     enum-known-message-2
     word-at-requires-2
     read-account-requires-2
     commit-requires
-    finish-requires-2
+    finish-requires
     enum-known-message-3
     word-at-requires-3
     read-account-requires-3
     abort-requires
-    finish-requires-3
+    finish-requires-2
     same-length
     same-length-2
     returns-3

@@ -36,7 +36,7 @@ same-length c = search needs
 returns-2 : tie.Need-returns-2
 returns-2 c =
     let at-writing = c .before .before .before .before in
-    let taken = at-writing .before .before .before in
+    let taken = at-writing .before .before in
     let start = taken .before .before .before .before in
     let a = start .args in
     let writing = at-writing .write-entries in
@@ -59,9 +59,9 @@ returns-3 : tie.Need-returns-3
 returns-3 c =
     let at-put = c .before .before in
     let at-word = at-put .before in
-    let told = at-word .before .before .before .before in
+    let told = at-word .before .before .before in
     let at-writing = told .before .before .before .before in
-    let taken = at-writing .before .before .before in
+    let taken = at-writing .before .before in
     let start = taken .before .before .before .before in
     let a = start .args in
     let writing = at-writing .write-entries in
