@@ -60,7 +60,7 @@ module _ (R : rule.Rule State Event ℕ) where
     guards-next : (d : rule.Decision) → (o .guarded && everyIn e (o .range)) ≡ guarded R s [] (xs ++ (rule.slot t g e d ∷ []))
     guards-next d = go (o .guarded) refl ∙ sym (guarded-more R s [] xs t g e d)
       where
-        go : (b : Bool) → o .guarded ≡ b → (b && everyIn e (o .range)) ≡ (guarded R s [] xs && every (R .guard e) (outcomes R xs s))
+        go : (b : Bool) → o .guarded ≡ b → (b && everyIn e (o .range)) ≡ (guarded R s [] xs && every (guard R e) (outcomes R xs s))
         go true h = rw (sym (k .guards) ∙ h, k .range h) (outcomes-every R (ranged .tells) s xs e)
         go false h = rw (sym (k .guards) ∙ h)
 
@@ -71,7 +71,7 @@ module _ (R : rule.Rule State Event ℕ) where
       pub ordered : o .range .lowest ≤ o .range .highest
       ordered = rw known-range (formed (outcomes R xs s) .ordered)
 
-      holds-all : every (R .guard e) (outcomes R xs s) ≡ true
+      holds-all : every (guard R e) (outcomes R xs s) ≡ true
       holds-all = sym (outcomes-every R (ranged .tells) s xs e) ∙ ap (everyIn e) (sym known-range) ∙ and-right (o .guarded) (everyIn e (o .range)) h
 
     module _ (d : Decision) (x : Range) (all : Bool) (tells : all ≡ everyIn e (o .range)) where

@@ -4,7 +4,7 @@ use Prim.Native.Nat.{ℕ}
 use mathlib.Core.Path.{_≡_, sym, _∙_}
 use mathlib.Core.Bool.{true}
 use mathlib.Core.List.{[]}
-use Rattle.rule.specs.Rule.{Rule}
+use Rattle.rule.specs.Rule.{Rule, guard}
 use Rattle.rule.specs.InOrder.{guarded}
 use Rattle.rule.proofs.Exact.{numbered}
 use Rattle.rule.proofs.Safe.{Safe, guarded-safe, outcome-agree}
@@ -16,7 +16,7 @@ use Rattle.account.specs.InOrder.{inOrderBy}
 use Rattle.account.specs.Table.{OutcomesOfTheTableBy}
 use Rattle.account.proofs.Clauses.{rule-clauses}
 
-module _ (R T : Rule State Event ℕ) (same : (e : Event) (s : State) → R .guard e s ≡ true → T .effect e s ≡ R .effect e s) where
+module _ (R T : Rule State Event ℕ) (same : (e : Event) (s : State) → guard R e s ≡ true → T .effect e s ≡ R .effect e s) where
   guards : (a : Account) → inOrderBy R a ≡ true → guarded R (a .state) [] (listsOf a .progress) ≡ true
   unfolding listsOf
   guards a h = rule-clauses R a h .guards

@@ -7,7 +7,7 @@ use mathlib.Core.Logic.{_↔_, _⊎_}
 use mathlib.Core.Bool.{Bool, true, false}
 use mathlib.Core.List.{List, _∷_, _++_, map}
 use lib.ListN.{length, take, drop}
-use Rattle.rule.specs.Rule.{Rule}
+use Rattle.rule.specs.Rule.{Rule, guard}
 use Rattle.rule.specs.Outcome.{undecidedOf, bit}
 use Rattle.rule.specs.Exact.{chosenState}
 use Rattle.events.specs.declared.Event.{Event}
@@ -44,7 +44,7 @@ module _ (R : Rule State Event ℕ) where
 
   -- in some outcome of these events the guard is so
   abbrev pub GuardSomewhere : State → List Slot → Event → Bool → Type 0
-  GuardSomewhere s xs e b = (n : ℕ) × (n < many xs) × (R .guard e (after s xs n) ≡ b)
+  GuardSomewhere s xs e b = (n : ℕ) × (n < many xs) × (guard R e (after s xs n) ≡ b)
 
 -- where so many events may be in progress and so many requests held; `Fits` says in plain words which states are in order
 module _ (R : Rule State Event ℕ) (progressLimit heldLimit : ℕ) (Fits : State → Type 0) where
@@ -66,7 +66,7 @@ module _ (R : Rule State Event ℕ) (progressLimit heldLimit : ℕ) (Fits : Stat
     pub guards :
         (before behind : List Slot) (x : Slot)
         → events a ≡ before ++ (x ∷ behind)
-        → (n : ℕ) → n < many before → R .guard (x .event) (after R (a .state) before n) ≡ true
+        → (n : ℕ) → n < many before → guard R (x .event) (after R (a .state) before n) ≡ true
     -- the oldest event undecided (6.6),
     pub oldest : (behind : List Slot) (x : Slot) → events a ≡ x ∷ behind → x .decision ≡ Undecided
     -- no decision on a held request (6.4),
@@ -103,7 +103,7 @@ module _ (R : Rule State Event ℕ) (progressLimit heldLimit : ℕ) (Fits : Stat
     pub decides :
         (b : Bool) (behind : List Slot) (x : Slot)
         → requests a ≡ x ∷ behind → length (events a) < progressLimit
-        → ((n : ℕ) → n < many (events a) → R .guard (x .event) (after R (a .state) (events a) n) ≡ b) → inOrderBy R a ≡ false
+        → ((n : ℕ) → n < many (events a) → guard R (x .event) (after R (a .state) (events a) n) ≡ b) → inOrderBy R a ≡ false
 
   abbrev pub BrokenClausesBy : Type 0
   BrokenClausesBy = (a : Account) → OutOfOrder a

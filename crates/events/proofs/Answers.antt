@@ -5,7 +5,7 @@ use mathlib.Core.Path.{_≡_, sym, _∙_, ap}
 use mathlib.Core.Bool.{true}
 use mathlib.Core.List.{List, [], _∷_, _++_, map, append-assoc, append-nil}
 use Rattle.rule.specs.Lists.{every, some-of}
-use Rattle.rule.specs.Rule.{Rule, Slot, slot, undecided, committed}
+use Rattle.rule.specs.Rule.{Rule, guard, Slot, slot, undecided, committed}
 use Rattle.rule.specs.Outcome.{outcomes}
 use Rattle.rule.specs.InOrder.{guarded}
 use Rattle.rule.proofs.Lists.{and-left, and-right}
@@ -25,13 +25,13 @@ range-tells progressLimit heldLimit s ss e =
 module _ (R : Rule State Event ℕ) (tells : TellsOf R) where
   module _ {G : Type 0} (s : State) (xs : List (Slot G Event)) where
     -- of the outcomes there is a first, so what a range tells of states it tells of them
-    pub outcomes-every : (e : Event) → everyIn e (rangeOf (outcomes R xs s)) ≡ every (R .guard e) (outcomes R xs s)
+    pub outcomes-every : (e : Event) → everyIn e (rangeOf (outcomes R xs s)) ≡ every (guard R e) (outcomes R xs s)
     outcomes-every e = let r = outcomes-first R xs s in rw (r .2) (tells (r .0) (r .1) e .all)
 
-    pub outcomes-some : (e : Event) → someIn e (rangeOf (outcomes R xs s)) ≡ some-of (R .guard e) (outcomes R xs s)
+    pub outcomes-some : (e : Event) → someIn e (rangeOf (outcomes R xs s)) ≡ some-of (guard R e) (outcomes R xs s)
     outcomes-some e = let r = outcomes-first R xs s in rw (r .2) (tells (r .0) (r .1) e .any)
 
-    module _ (t : ℕ) (g : G) (e : Event) (h : every (R .guard e) (outcomes R xs s) ≡ true) where
+    module _ (t : ℕ) (g : G) (e : Event) (h : every (guard R e) (outcomes R xs s) ≡ true) where
       pub outcomes-after : rangeAfter e (rangeOf (outcomes R xs s)) ≡ rangeOf (outcomes R (xs ++ (slot t g e committed ∷ [])) s)
       outcomes-after =
           let r = outcomes-first R xs s in
@@ -47,13 +47,13 @@ module _ (R : Rule State Event ℕ) (tells : TellsOf R) where
   through : {G : Type 0} (s : State) (before xs : List (Slot G Event)) → guarded R s before xs ≡ true → rangeThrough xs (rangeOf (outcomes R before s)) ≡ rangeOf (outcomes R (before ++ xs) s)
   through s before [] h = rw (append-nil before)
   through s before (slot t g e undecided ∷ xs) h =
-      let all = every (R .guard e) (outcomes R before s) in
+      let all = every (guard R e) (outcomes R before s) in
       let rest = guarded R s (before ++ (slot t g e undecided ∷ [])) xs in
       ap (rangeThrough xs) (outcomes-perhaps s before t g e (and-left all rest h))
       ∙ through s (before ++ (slot t g e undecided ∷ [])) xs (and-right all rest h)
       ∙ ap (λ l. rangeOf (outcomes R l s)) (append-assoc before (slot t g e undecided ∷ []) xs)
   through s before (slot t g e committed ∷ xs) h =
-      let all = every (R .guard e) (outcomes R before s) in
+      let all = every (guard R e) (outcomes R before s) in
       let rest = guarded R s (before ++ (slot t g e committed ∷ [])) xs in
       ap (rangeThrough xs) (outcomes-after s before t g e (and-left all rest h))
       ∙ through s (before ++ (slot t g e committed ∷ [])) xs (and-right all rest h)

@@ -9,7 +9,7 @@ use native.Mathlib.Omega.{arith}
 use lib.Dec.{eqb}
 use lib.Pow.{pow-pos}
 use Rattle.rule.specs.Lists.{every, numbers}
-use Rattle.rule.specs.Rule.{Rule, Decision, undecided, committed, Slot, slot}
+use Rattle.rule.specs.Rule.{Rule, guard, Decision, undecided, committed, Slot, slot}
 use Rattle.rule.specs.Outcome.{undecidedOf, outcome, outcomes}
 use Rattle.rule.specs.InOrder.{guarded}
 use Rattle.rule.proofs.Outcomes.{twice}
@@ -99,11 +99,11 @@ module _ {G S E B : Type 0} (R : Rule S E B) where
 
   -- each event finds its guard true however the older ones end: with one event more
   pub guarded-more : (s : S) (before xs : List (Slot G E)) (t : ℕ) (g : G) (e : E) (d : Decision)
-      → guarded R s before (xs ++ (slot t g e d ∷ [])) ≡ (guarded R s before xs && every (R .guard e) (outcomes R (before ++ xs) s))
-  guarded-more s before [] t g e d = rw (append-nil before) (and-true (every (R .guard e) (outcomes R before s)))
+      → guarded R s before (xs ++ (slot t g e d ∷ [])) ≡ (guarded R s before xs && every (guard R e) (outcomes R (before ++ xs) s))
+  guarded-more s before [] t g e d = rw (append-nil before) (and-true (every (guard R e) (outcomes R before s)))
   guarded-more s before (slot t′ g′ e′ d′ ∷ xs) t g e d =
       rw (guarded-more s (before ++ (slot t′ g′ e′ d′ ∷ [])) xs t g e d, append-assoc before (slot t′ g′ e′ d′ ∷ []) xs)
-      (sym (and-assoc (every (R .guard e′) (outcomes R before s)) (guarded R s (before ++ (slot t′ g′ e′ d′ ∷ [])) xs) (every (R .guard e) (outcomes R (before ++ (slot t′ g′ e′ d′ ∷ xs)) s))))
+      (sym (and-assoc (every (guard R e′) (outcomes R before s)) (guarded R s (before ++ (slot t′ g′ e′ d′ ∷ [])) xs) (every (guard R e) (outcomes R (before ++ (slot t′ g′ e′ d′ ∷ xs)) s))))
     where
       and-assoc : (a b c : Bool) → (a && b && c) ≡ (a && (b && c))
       and-assoc true b c = refl

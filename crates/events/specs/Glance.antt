@@ -7,7 +7,7 @@ use mathlib.Core.Logic.{_↔_}
 use mathlib.Core.Bool.{true}
 use mathlib.Core.List.{List, [], _∷_, _++_, map}
 use Rattle.rule.specs.Lists.{every, some-of}
-use Rattle.rule.specs.Rule.{Rule, Slot}
+use Rattle.rule.specs.Rule.{Rule, guard, Slot}
 use Rattle.rule.specs.Outcome.{outcomes}
 use Rattle.rule.specs.InOrder.{guarded}
 use Rattle.events.specs.declared.Event.{Event}
@@ -44,11 +44,11 @@ GlanceHolds = (states : List State) → Glance states
 -- what a range tells of an event, on states of which there is one at least, by the guards and effects of a rule
 module _ (R : Rule State Event ℕ) (first : State) (others : List State) (e : Event) where
   pub record Tells : Type 0 where
-    pub all : everyIn e (rangeOf (first ∷ others)) ≡ every (R .guard e) (first ∷ others)
-    pub any : someIn e (rangeOf (first ∷ others)) ≡ some-of (R .guard e) (first ∷ others)
+    pub all : everyIn e (rangeOf (first ∷ others)) ≡ every (guard R e) (first ∷ others)
+    pub any : someIn e (rangeOf (first ∷ others)) ≡ some-of (guard R e) (first ∷ others)
     -- where the guard holds in all of them: the range after the event in all of them, and with it in a second lot of them
-    pub after : every (R .guard e) (first ∷ others) ≡ true → rangeAfter e (rangeOf (first ∷ others)) ≡ rangeOf (map (R .effect e) (first ∷ others))
-    pub perhaps : every (R .guard e) (first ∷ others) ≡ true
+    pub after : every (guard R e) (first ∷ others) ≡ true → rangeAfter e (rangeOf (first ∷ others)) ≡ rangeOf (map (R .effect e) (first ∷ others))
+    pub perhaps : every (guard R e) (first ∷ others) ≡ true
         → rangePerhaps e (rangeOf (first ∷ others)) ≡ rangeOf ((first ∷ others) ++ map (R .effect e) (first ∷ others))
 
 -- a range answers for a rule: it tells of every event, on any states
@@ -59,8 +59,8 @@ TellsOf R = (first : State) (others : List State) (e : Event) → Tells R first 
 module _ {G : Type 0} (R : Rule State Event ℕ) (s : State) (xs : List (Slot G Event)) where
   pub record Answers : Type 0 where
     pub range : rangeThrough xs (rangeOf (s ∷ [])) ≡ rangeOf (outcomes R xs s)
-    pub all : (e : Event) → everyIn e (rangeThrough xs (rangeOf (s ∷ []))) ≡ every (R .guard e) (outcomes R xs s)
-    pub any : (e : Event) → someIn e (rangeThrough xs (rangeOf (s ∷ []))) ≡ some-of (R .guard e) (outcomes R xs s)
+    pub all : (e : Event) → everyIn e (rangeThrough xs (rangeOf (s ∷ []))) ≡ every (guard R e) (outcomes R xs s)
+    pub any : (e : Event) → someIn e (rangeThrough xs (rangeOf (s ∷ []))) ≡ some-of (guard R e) (outcomes R xs s)
 
 abbrev pub AnswersOf : Rule State Event ℕ → Type 1
 AnswersOf R = (G : Type 0) (s : State) (xs : List (Slot G Event)) → guarded R s [] xs ≡ true → Answers R s xs

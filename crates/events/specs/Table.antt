@@ -18,18 +18,18 @@ use Rattle.events.specs.Panel.{firstPanel, firstTable}
 module _ (progressLimit heldLimit : ℕ) (s : State) (a : ℕ) where
   -- the column of guards
   pub record Guards : Type 0 where
-    pub opens : (firstPanel progressLimit heldLimit .guard (Open a) s ≡ true) ↔ ((s .life ≡ New) × (a ≤ 1_000_000))
-    pub withdraws : (firstPanel progressLimit heldLimit .guard (Withdraw a) s ≡ true) ↔ ((s .life ≡ Opened) × (1 ≤ a) × (a ≤ s .balance))
-    pub deposits : (firstPanel progressLimit heldLimit .guard (Deposit a) s ≡ true) ↔ ((s .life ≡ Opened) × (1 ≤ a) × (s .balance + a ≤ 1_000_000))
-    pub closes : (firstPanel progressLimit heldLimit .guard Close s ≡ true) ↔ (s .life ≡ Opened)
+    pub opens : (guard (firstPanel progressLimit heldLimit) (Open a) s ≡ true) ↔ ((s .life ≡ New) × (a ≤ 1_000_000))
+    pub withdraws : (guard (firstPanel progressLimit heldLimit) (Withdraw a) s ≡ true) ↔ ((s .life ≡ Opened) × (1 ≤ a) × (a ≤ s .balance))
+    pub deposits : (guard (firstPanel progressLimit heldLimit) (Deposit a) s ≡ true) ↔ ((s .life ≡ Opened) × (1 ≤ a) × (s .balance + a ≤ 1_000_000))
+    pub closes : (guard (firstPanel progressLimit heldLimit) Close s ≡ true) ↔ (s .life ≡ Opened)
 
   -- the column of effects, where the guard holds; where it does not, nothing changes
   pub record Effects : Type 0 where
-    pub opens : firstPanel progressLimit heldLimit .guard (Open a) s ≡ true → firstPanel progressLimit heldLimit .effect (Open a) s ≡ record { life = Opened; balance = a }
-    pub withdraws : firstPanel progressLimit heldLimit .guard (Withdraw a) s ≡ true → firstPanel progressLimit heldLimit .effect (Withdraw a) s ≡ record { life = Opened; balance = s .balance - a }
-    pub deposits : firstPanel progressLimit heldLimit .guard (Deposit a) s ≡ true → firstPanel progressLimit heldLimit .effect (Deposit a) s ≡ record { life = Opened; balance = s .balance + a }
-    pub closes : firstPanel progressLimit heldLimit .guard Close s ≡ true → firstPanel progressLimit heldLimit .effect Close s ≡ record { life = Closed; balance = 0 }
-    pub otherwise : (e : Event) → (firstPanel progressLimit heldLimit .guard e s ≡ true → ⊥) → firstPanel progressLimit heldLimit .effect e s ≡ s
+    pub opens : guard (firstPanel progressLimit heldLimit) (Open a) s ≡ true → firstPanel progressLimit heldLimit .effect (Open a) s ≡ record { life = Opened; balance = a }
+    pub withdraws : guard (firstPanel progressLimit heldLimit) (Withdraw a) s ≡ true → firstPanel progressLimit heldLimit .effect (Withdraw a) s ≡ record { life = Opened; balance = s .balance - a }
+    pub deposits : guard (firstPanel progressLimit heldLimit) (Deposit a) s ≡ true → firstPanel progressLimit heldLimit .effect (Deposit a) s ≡ record { life = Opened; balance = s .balance + a }
+    pub closes : guard (firstPanel progressLimit heldLimit) Close s ≡ true → firstPanel progressLimit heldLimit .effect Close s ≡ record { life = Closed; balance = 0 }
+    pub otherwise : (e : Event) → (guard (firstPanel progressLimit heldLimit) e s ≡ true → ⊥) → firstPanel progressLimit heldLimit .effect e s ≡ s
 
   -- the same column as the table has it, whatever the guard says
   pub record TableEffects : Type 0 where

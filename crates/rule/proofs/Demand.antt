@@ -9,7 +9,7 @@ use mathlib.Core.List.{List, [], _∷_, _++_}
 use native.Mathlib.Omega.{arith}
 use lib.ListN.{length}
 use Rattle.rule.specs.Lists.{keep}
-use Rattle.rule.specs.Rule.{Rule, Decision, undecided, committed, Slot, slot, Account, Message, request, commit, abort, accept, reject, hold, Verdict, Weighing, Entry, voted, noted, applied, dropped, newAccount}
+use Rattle.rule.specs.Rule.{Rule, guard, Decision, undecided, committed, Slot, slot, Account, Message, request, commit, abort, accept, reject, hold, Verdict, Weighing, Entry, voted, noted, applied, dropped, newAccount}
 use Rattle.rule.specs.Weigh.{decide}
 use Rattle.rule.specs.Call.{Answer, refused, taken, written, reached}
 use Rattle.rule.specs.InOrder.{oldestUndecided, oldestStaysHeld, staysHeld}
@@ -164,7 +164,7 @@ module _ {G S E B : Type 0} (R : Rule S E B) where
         guards = past-guards (h .tied .past) (h .oldest);
         ahead =
             λ before behind t g e d k q.
-            every-outcome R (R .guard e) (course before) (R .fresh)
+            every-outcome R (guard R e) (course before) (R .fresh)
             (safe-every R (course before) t g e d (course behind) (R .fresh)
             (rw (← course-append before (line t g e (ongoing d) k ∷ behind)) (rw (← q) (past-course (h .tied .past) (h .tied .safe)))));
         along = λ before behind chosen q. sorted-along R before (sorted-before before behind (rw q at (past-sorted R (h .tied .past)))) chosen (R .fresh);

@@ -4,17 +4,18 @@ use Prim.Native.Nat.{ℕ, zero, suc, _+_, _*_, _/_, _%_, _^_, _<_, _≤_}
 use mathlib.Core.Path.{_≡_, refl, sym, _∙_, ap, ap₂, fun-ext}
 use mathlib.Core.Logic.{⊎-elim}
 use mathlib.Core.Bool.{Bool, true, false, cond, _&&_, _||_, true≢false}
-use mathlib.Core.List.{List, [], _∷_, _++_, map}
+use mathlib.Core.List.{List, [], _∷_, _++_, map, cons≢nil}
+use mathlib.Core.Option.{Option, none, some}
 use native.Mathlib.Omega.{arith}
-use lib.Dec.{eqb}
+use lib.Dec.{eqb, leb}
 use lib.Pow.{pow-pos, shr-shr}
 use lib.Count.{ones, ones-step}
 use lib.ListN.{length, getD}
 use borrow.Author.Tests.{lt-leb, le-leb}
 use Rattle.rule.specs.Lists.{every, some-of, numbers}
-use Rattle.rule.specs.Rule.{Rule, Slot, slot, undecided, committed, Verdict, accept, reject, hold}
+use Rattle.rule.specs.Rule.{Rule, absent, guard, Slot, slot, undecided, committed, Verdict, accept, reject, hold}
 use Rattle.rule.specs.Outcome.{undecidedOf, appliedIn, bit, outcome, outcomes}
-use Rattle.rule.specs.Weigh.{weigh, decide}
+use Rattle.rule.specs.Weigh.{unweighed, reasonBy, weigh, weighing, decide}
 use Rattle.rule.specs.Exact.{numberOf, Choices, chosenState, guardIn, Numbered, Exact, Decided}
 use Rattle.rule.proofs.Lists.{either, every-map, some-map, every-number, number-every, some-number, no-number, number-none, fails-number}
 use Rattle.rule.proofs.Outcomes.{twice, outcomes-length}
@@ -78,6 +79,12 @@ module _ {G S E B : Type 0} (R : Rule S E B) where
   outcome-bits (slot t g e undecided ∷ xs) n s =
       outcome-bits xs (n / 2) (cond (eqb (n % 2) 1) (R .effect e s) s)
       ∙ ap₂ (λ (c : ℕ → Bool) (b : Bool). chosenState R xs c (cond b (R .effect e s) s)) (fun-ext (λ i. sym (bit-suc n i))) (sym (bit-zero n))
+
+  -- outcome 0 applies none of the undecided events
+  pub outcome-none : (xs : List (Slot G E)) (s : S) → outcome R xs 0 s ≡ chosenState R xs (λ (i : ℕ). false) s
+  outcome-none [] s = refl
+  outcome-none (slot t g e committed ∷ xs) s = outcome-none xs (R .effect e s)
+  outcome-none (slot t g e undecided ∷ xs) s = outcome-none xs s
 
 -- the count of ones is the number of undecided events applied
 pub applied-ones : {G E : Type 0} (xs : List (Slot G E)) (n : ℕ) → n < 2 ^ undecidedOf xs → appliedIn xs n ≡ ones n
@@ -165,8 +172,8 @@ module _ {G S E B : Type 0} (R : Rule S E B) (e : E) (xs : List (Slot G E)) (s :
   unfolding weigh outcomes verdict
   tests =
       ap₂ (λ (a b : Bool). cond a accept (cond b hold reject))
-      (every-map (R .guard e) (λ (n : ℕ). outcome R xs n s) (numbers 0 (2 ^ undecidedOf xs)))
-      (some-map (R .guard e) (λ (n : ℕ). outcome R xs n s) (numbers 0 (2 ^ undecidedOf xs)))
+      (every-map (guard R e) (λ (n : ℕ). outcome R xs n s) (numbers 0 (2 ^ undecidedOf xs)))
+      (some-map (guard R e) (λ (n : ℕ). outcome R xs n s) (numbers 0 (2 ^ undecidedOf xs)))
 
   pub exact : Exact R e xs s
   exact =
@@ -192,6 +199,15 @@ module _ {G S E B : Type 0} (R : Rule S E B) (e : E) (xs : List (Slot G E)) (s :
         );
       }
 
+-- Where the guard does not hold there is a reason.
+pub against : {S E B : Type 0} (R : Rule S E B) (e : E) (s : S) → guard R e s ≡ false → (n : ℕ) × (R .reason e s ≡ some n)
+unfolding guard
+against R e s h = by (R .reason e s) h
+  where
+    by : (o : Option ℕ) → absent o ≡ false → (n : ℕ) × (o ≡ some n)
+    by none k = absurd (true≢false k)
+    by (some n) k = (n, refl)
+
 -- With one outcome the guard holds in all or in none.
 one-outcome : (b : Bool) → cond (b && true) accept (cond (b || false) hold reject) ≡ hold → ⊥
 one-outcome true h = let z : _≡_ {A = ℕ} 0 1 = cc in omega arith
@@ -199,7 +215,7 @@ one-outcome false h = let z : _≡_ {A = ℕ} 0 1 = cc in omega arith
 
 pub idle-decide : (G : Type 0) {S E B : Type 0} (R : Rule S E B) (e : E) (s : S) → 1 ≤ R .progressLimit → decide {G = G} R e s [] .verdict ≡ hold → ⊥
 unfolding decide weigh outcomes
-idle-decide G R e s roomy h = one-outcome (R .guard e s) (rw (lt-leb (R .progressLimit) 0 roomy) at h)
+idle-decide G R e s roomy h = one-outcome (guard R e s) (rw (lt-leb (R .progressLimit) 0 roomy) at h)
 
 module _ {G S E B : Type 0} (R : Rule S E B) (e : E) (s : S) where
   pub decided : (progress held : List (Slot G E)) → Decided R e s progress held
@@ -208,13 +224,31 @@ module _ {G S E B : Type 0} (R : Rule S E B) (e : E) (s : S) where
       record {
         behind = λ h. absurd (h refl);
         full = λ h l. rw (le-leb (R .progressLimit) (length progress) l);
-        free = λ h l. rw (lt-leb (R .progressLimit) (length progress) l, outcomes-length R progress s);
+        free = λ h l. rw (lt-leb (R .progressLimit) (length progress) l);
+        count = λ h l. rw (lt-leb (R .progressLimit) (length progress) l, outcomes-length R progress s);
+        rejected = λ h l v.
+            let no = exact R e progress s .rejected .0 v 0 (pow-pos (undecidedOf progress)) in
+            let why = against R e (outcome R progress 0 s) no in
+            (why .0, rw (lt-leb (R .progressLimit) (length progress) l, v, why .1), why .1);
+        other = by (leb (R .progressLimit) (length progress));
         idle = λ h roomy empty v. idle-decide G R e s roomy (rw empty at v);
       }
+    where
+      without : (v : Verdict) (reason : Option ℕ) → (v ≡ reject → ⊥) → reasonBy v reason ≡ none
+      without accept reason h = refl
+      without reject reason h = absurd (h refl)
+      without hold reason h = refl
+
+      by : (b : Bool) → (cond b unweighed (weighing R e s progress) .verdict ≡ reject → ⊥) → cond b unweighed (weighing R e s progress) .reason ≡ none
+      by true h = refl
+      by false h = without (weigh R e (outcomes R progress s)) (R .reason e (outcome R progress 0 s)) h
   decided progress (x ∷ held) =
       record {
         behind = λ h. refl;
         full = λ h l. refl;
-        free = λ h l. let z : _≡_ {A = ℕ} 0 1 = cc in absurd (omega arith);
+        free = λ h l. absurd (cons≢nil h);
+        count = λ h l. absurd (cons≢nil h);
+        rejected = λ h l v. absurd (cons≢nil h);
+        other = λ h. refl;
         idle = λ h roomy empty v. let z : _≡_ {A = ℕ} 0 1 = cc in omega arith;
       }

@@ -82,8 +82,7 @@ module _ {G H S E B : Type 0} (R : Rule S E B) (f : G → H) where
   decide-through : (e : E) (s : S) (xs : List (Slot G E)) → decide R e s (map (slotThrough f) xs) ≡ decide R e s xs
   unfolding decide
   decide-through e s xs =
-      ap₂ (λ (n : ℕ) (o : List S). cond (leb (R .progressLimit) n) unweighed (record { verdict = weigh R e o; weighed = length o }))
-      (length-map xs (slotThrough f)) (outcomes-through xs s)
+      rw (length-map xs (slotThrough f), outcomes-through xs s, outcome-through xs 0 s)
 
   behind-through : (e : E) (s : S) (held xs : List (Slot G E)) → decideBehind R (map (slotThrough f) held) e s (map (slotThrough f) xs) ≡ decideBehind R held e s xs
   behind-through e s [] xs = decide-through e s xs

@@ -3,7 +3,7 @@
 use mathlib.Core.Path.{_≡_, refl, ap}
 use mathlib.Core.Bool.{true}
 use mathlib.Core.List.{List, [], _∷_, _++_}
-use Rattle.rule.specs.Rule.{Rule, Account, Message}
+use Rattle.rule.specs.Rule.{Rule, guard, Account, Message}
 use Rattle.rule.specs.Run.{run, GuardsHold}
 use Rattle.rule.specs.Call.{call, reached}
 use Rattle.rule.specs.History.{Seen, history}
@@ -11,14 +11,14 @@ use Rattle.rule.specs.Follows.{RunsOn, CallsOn}
 use Rattle.rule.proofs.Tells.{run-last}
 
 module _ {S E B : Type 0} (R : Rule S E B) where
-  guards-parts : (es : List E) (s : S) → GuardsHold R es s → (before behind : List E) (e : E) → es ≡ before ++ (e ∷ behind) → R .guard e (run R before s) ≡ true
+  guards-parts : (es : List E) (s : S) → GuardsHold R es s → (before behind : List E) (e : E) → es ≡ before ++ (e ∷ behind) → guard R e (run R before s) ≡ true
   guards-parts es s h before behind e q = at before s (rw q at h)
     where
-      at : (before′ : List E) (s′ : S) → GuardsHold R (before′ ++ (e ∷ behind)) s′ → R .guard e (run R before′ s′) ≡ true
+      at : (before′ : List E) (s′ : S) → GuardsHold R (before′ ++ (e ∷ behind)) s′ → guard R e (run R before′ s′) ≡ true
       at [] s′ k = k .0
       at (e′ ∷ before′) s′ k = at before′ (R .effect e′ s′) (k .1)
 
-  parts-guards : (es : List E) (s : S) → ((before behind : List E) (e : E) → es ≡ before ++ (e ∷ behind) → R .guard e (run R before s) ≡ true) → GuardsHold R es s
+  parts-guards : (es : List E) (s : S) → ((before behind : List E) (e : E) → es ≡ before ++ (e ∷ behind) → guard R e (run R before s) ≡ true) → GuardsHold R es s
   parts-guards [] s h = tt
   parts-guards (e ∷ es) s h =
       (h [] es e refl, parts-guards es (R .effect e s) (λ before behind e′ q. h (e ∷ before) behind e′ (ap (λ (l : List E). e ∷ l) q)))

@@ -11,9 +11,9 @@ use lib.Dec.{leb}
 use lib.ListN.{length, length-append}
 use borrow.Author.Tests.{leb-false, eq-eqb}
 use Rattle.rule.specs.Lists.{every, some-of}
-use Rattle.rule.specs.Rule.{Rule, Decision, undecided, committed, Slot, slot, Account, Verdict, accept, reject, hold, Weighing, Entry, voted, applied}
+use Rattle.rule.specs.Rule.{Rule, guard, Decision, undecided, committed, Slot, slot, Account, Verdict, accept, reject, hold, Weighing, Entry, voted, applied}
 use Rattle.rule.specs.Outcome.{outcomes}
-use Rattle.rule.specs.Weigh.{unweighed, weigh, decide}
+use Rattle.rule.specs.Weigh.{unweighed, weigh, weighing, decide}
 use Rattle.rule.specs.Step.{Step, named, drainBy, drain, settle}
 use Rattle.rule.specs.InOrder.{apart, oldestUndecided, oldestStaysHeld}
 use Rattle.rule.specs.History.{waiting, votedNo, ongoing, wasApplied, fateBy, Line, line, owners, note, notes}
@@ -46,7 +46,7 @@ module _ {G S E B : Type 0} (R : Rule S E B) where
 
   -- What a verdict says: an acceptance, that a place is free and the guard holds in every outcome.
   pub decide-accept : (e : E) (s : S) (progress : List (Slot G E))
-      → decide R e s progress .verdict ≡ accept → (length progress < R .progressLimit) × (every (R .guard e) (outcomes R progress s) ≡ true)
+      → decide R e s progress .verdict ≡ accept → (length progress < R .progressLimit) × (every (guard R e) (outcomes R progress s) ≡ true)
   unfolding decide weigh
   decide-accept e s progress h = full (leb (R .progressLimit) (length progress)) refl h
     where
@@ -56,10 +56,10 @@ module _ {G S E B : Type 0} (R : Rule S E B) where
       chosen false false k = let z : _≡_ {A = ℕ} 0 1 = cc in absurd (omega arith)
 
       full : (b : Bool) → leb (R .progressLimit) (length progress) ≡ b
-          → cond b unweighed (record { verdict = weigh R e (outcomes R progress s); weighed = length (outcomes R progress s) }) .verdict ≡ accept
-          → (length progress < R .progressLimit) × (every (R .guard e) (outcomes R progress s) ≡ true)
+          → cond b unweighed (weighing R e s progress) .verdict ≡ accept
+          → (length progress < R .progressLimit) × (every (guard R e) (outcomes R progress s) ≡ true)
       full true q k = let z : _≡_ {A = ℕ} 0 1 = cc in absurd (omega arith)
-      full false q k = (leb-false (R .progressLimit) (length progress) q, chosen (every (R .guard e) (outcomes R progress s)) (some-of (R .guard e) (outcomes R progress s)) k)
+      full false q k = (leb-false (R .progressLimit) (length progress) q, chosen (every (guard R e) (outcomes R progress s)) (some-of (guard R e) (outcomes R progress s)) k)
 
   -- a vote of these accounts
   abbrev pub vote : ℕ → G → E → Weighing → Entry G E B
@@ -89,7 +89,7 @@ module _ {G S E B : Type 0} (R : Rule S E B) where
         let q = decide-accept e s progress (ap (λ (x : Weighing). x .verdict) is ∙ v) in (
           record {
             past = rw v (past-noting R t (ongoing undecided) 0 (λ lines′ l. live-accept t g e undecided l (p .0) (p .1)) (h .past));
-            safe = safe-accept R t g e undecided progress s (h .safe) (every-way R (R .guard e) progress s (q .1));
+            safe = safe-accept R t g e undecided progress s (h .safe) (every-way R (guard R e) progress s (q .1));
             transactions = rw (append-assoc progress (slot t g e undecided ∷ []) held) (h .transactions);
             few = rw (length-append progress (slot t g e undecided ∷ [])) (omega (arith, q .0));
             fewHeld = omega (arith, h .fewHeld);

@@ -10,7 +10,7 @@ use lib.Dec.{leb}
 use lib.ListN.{length}
 use borrow.Author.Tests.{le-leb, leb-true, leb-false, eq-eqb, eqb-true}
 use Rattle.rule.specs.Lists.{every, some-of, numbers}
-use Rattle.rule.specs.Rule.{Rule, Decision, undecided, committed, Slot, slot, Account, Message, newAccount, Verdict, accept, reject, hold}
+use Rattle.rule.specs.Rule.{Rule, guard, Decision, undecided, committed, Slot, slot, Account, Message, newAccount, Verdict, accept, reject, hold}
 use Rattle.rule.specs.Outcome.{undecidedOf, bit, outcome, outcomes}
 use Rattle.rule.specs.Weigh.{decide}
 use Rattle.rule.specs.Step.{named}
@@ -101,11 +101,11 @@ module _ {G S E B : Type 0} (R : Rule S E B) where
 
   parts-guarded : (s : S) (before rest : List (Slot G E))
       → ((between behind : List (Slot G E)) (t : ℕ) (g : G) (e : E) (d : Decision) → rest ≡ between ++ (slot t g e d ∷ behind)
-      → every (R .guard e) (outcomes R (before ++ between) s) ≡ true)
+      → every (guard R e) (outcomes R (before ++ between) s) ≡ true)
       → guarded R s before rest ≡ true
   parts-guarded s before [] h = refl
   parts-guarded s before (slot t g e d ∷ rest) h =
-      and-both (every (R .guard e) (outcomes R before s)) (guarded R s (before ++ (slot t g e d ∷ [])) rest)
+      and-both (every (guard R e) (outcomes R before s)) (guarded R s (before ++ (slot t g e d ∷ [])) rest)
       (rw (append-nil before) at (h [] rest t g e d refl))
       (parts-guarded s (before ++ (slot t g e d ∷ [])) rest
       (λ between behind t′ g′ e′ d′ q.
@@ -115,8 +115,8 @@ module _ {G S E B : Type 0} (R : Rule S E B) where
   abbrev Stays : S → List (Slot G E) → E → Type 0
   Stays s progress e =
       (R .progressLimit ≤ length progress)
-      ⊎ (((n : ℕ) × (n < 2 ^ undecidedOf progress) × (R .guard e (chosenState R progress (bit n) s) ≡ true))
-      × ((n : ℕ) × (n < 2 ^ undecidedOf progress) × (R .guard e (chosenState R progress (bit n) s) ≡ false)))
+      ⊎ (((n : ℕ) × (n < 2 ^ undecidedOf progress) × (guard R e (chosenState R progress (bit n) s) ≡ true))
+      × ((n : ℕ) × (n < 2 ^ undecidedOf progress) × (guard R e (chosenState R progress (bit n) s) ≡ false)))
 
   verdict-stays : (s : S) (progress : List (Slot G E)) (e : E) → staysHeld (decide R e s progress .verdict) ≡ true → Stays s progress e
   verdict-stays s progress e h = by (leb (R .progressLimit) (length progress)) refl
@@ -156,7 +156,7 @@ module _ {G S E B : Type 0} (R : Rule S E B) where
         undecidedHeld = λ before behind t g e d q. without-undecided t g e d (every-parts withoutDecision before (slot t g e d) behind (rw q at (k .decisions)));
         guards =
             λ before behind t g e d q.
-            every-outcome (R .guard e) before (a .state)
+            every-outcome (guard R e) before (a .state)
             (safe-every R before t g e d behind (a .state) (rw q at (guarded-safe R (a .state) [] (a .progress) tt (k .guards))));
         oldest = λ behind t g e d. oldest-undecided (a .progress) behind t g e d (k .oldest);
         stays = λ behind t g e d. stays-first (a .state) (a .progress) (a .held) behind t g e d (k .stays);
@@ -172,7 +172,7 @@ module _ {G S E B : Type 0} (R : Rule S E B) where
         state = h .state;
         transactions = differ-apart (a .progress ++ a .held) (h .differ);
         decisions = parts-undecided (a .held) (h .undecidedHeld);
-        guards = parts-guarded (a .state) [] (a .progress) (λ before behind t g e d q. outcome-every (R .guard e) before (a .state) (h .guards before behind t g e d q));
+        guards = parts-guarded (a .state) [] (a .progress) (λ before behind t g e d q. outcome-every (guard R e) before (a .state) (h .guards before behind t g e d q));
         oldest = undecided-oldest (a .progress) (h .oldest);
         stays = first-stays (a .state) (a .progress) (a .held) (h .stays);
       })

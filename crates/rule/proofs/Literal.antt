@@ -2,19 +2,20 @@
 -- Assumes nothing.
 use Prim.Native.Nat.{ℕ, zero, suc, _+_, _*_, _/_, _%_, _<_}
 use native.Mathlib.Omega.{arith}
-use mathlib.Core.Path.{_≡_, refl, _∙_}
-use mathlib.Core.Bool.{Bool, true, false, cond, _&&_}
+use mathlib.Core.Path.{_≡_, refl, sym, _∙_}
+use mathlib.Core.Bool.{Bool, true, false, cond, _&&_, true≢false}
 use mathlib.Core.List.{List, [], _∷_, append-nil}
+use mathlib.Core.Option.{Option, none, some}
 use borrow.Author.Tests.{eq-eqb, ne-eqb}
 use lib.ListN.{getD}
 use Rattle.rule.specs.Lists.{keep, numbers}
-use Rattle.rule.specs.Rule.{Rule, Decision, undecided, committed, Slot, Account, Message, Weighing, Entry}
+use Rattle.rule.specs.Rule.{Rule, absent, guard, Decision, undecided, committed, Slot, Account, Message, Weighing, Entry}
 use Rattle.rule.specs.Step.{Step}
 use Rattle.rule.specs.History.{Fate, waiting, votedNo, ongoing, wasApplied, wasDropped, Line, live, Seen}
 use Rattle.rule.specs.Exact.{numberOf}
-use Rattle.rule.specs.Literal.{ListLiteral, NumbersLiteral, BitLiteral, SlotLiteral, CallLiteral, EntryLiteral, HistoryLiteral, EndsLiteral, FiledLiteral}
+use Rattle.rule.specs.Literal.{ListLiteral, NumbersLiteral, BitLiteral, SlotLiteral, GuardLiteral, CallLiteral, EntryLiteral, HistoryLiteral, EndsLiteral, FiledLiteral}
 use Rattle.rule.proofs.Lists.{some-parts, parts-some, every-parts, parts-every, keep-append, length-numbers}
-use Rattle.rule.proofs.Exact.{bit-zero, bit-suc}
+use Rattle.rule.proofs.Exact.{bit-zero, bit-suc, against}
 
 pub list-literal : {A : Type 0} (p : A → Bool) (x : A) (xs : List A) → ListLiteral p x xs
 list-literal p x xs =
@@ -65,6 +66,14 @@ slot-literal t u n g e d xs =
       marks = rw (eq-eqb t t refl) refl;
       leaves = λ differ. rw (ne-eqb u t differ) refl;
     }
+
+pub guard-literal : {S E B : Type 0} (R : Rule S E B) (e : E) (s : S) (n : ℕ) (reason : Option ℕ) → GuardLiteral R e s n reason
+unfolding guard
+guard-literal R e s n reason = record { holds = (holds (R .reason e s), λ h. rw h refl); fails = (against R e s, λ h. rw (h .1) refl); absences = refl; reasons = refl }
+  where
+    holds : (o : Option ℕ) → absent o ≡ true → o ≡ none
+    holds none h = refl
+    holds (some k) h = absurd (true≢false (sym h))
 
 pub call-literal : {G S E B : Type 0} (R : Rule S E B) (n t : ℕ) (g : G) (e : E) (d : Decision) (xs : List (Entry G E B)) (a : Account G S E) (step : Step G S E B) → CallLiteral R n t g e d xs a step
 call-literal R n t g e d xs a step =

@@ -8,7 +8,7 @@ use mathlib.Core.List.{List, [], _∷_, _++_, append-assoc, append-nil}
 use native.Mathlib.Omega.{arith}
 use lib.Dec.{eqb}
 use Rattle.rule.specs.Lists.{every, some-of}
-use Rattle.rule.specs.Rule.{Rule, Decision, undecided, committed, Slot, slot}
+use Rattle.rule.specs.Rule.{Rule, guard, Decision, undecided, committed, Slot, slot}
 use Rattle.rule.specs.Outcome.{outcome, outcomes}
 use Rattle.rule.specs.Step.{mark, without, settledState, unsettled}
 use Rattle.rule.specs.Call.{namedCommitted}
@@ -20,8 +20,8 @@ use Rattle.rule.proofs.Ways.{no-zero, zero-no, every-way, way-every}
 module _ {G S E B : Type 0} (R : Rule S E B) where
   abbrev pub Safe : List (Slot G E) → S → Type 0
   Safe [] s = Unit {0}
-  Safe (slot t g e undecided ∷ xs) s = (R .guard e s ≡ true) × Safe xs s × Safe xs (R .effect e s)
-  Safe (slot t g e committed ∷ xs) s = (R .guard e s ≡ true) × Safe xs (R .effect e s)
+  Safe (slot t g e undecided ∷ xs) s = (guard R e s ≡ true) × Safe xs s × Safe xs (R .effect e s)
+  Safe (slot t g e committed ∷ xs) s = (guard R e s ≡ true) × Safe xs (R .effect e s)
 
   -- a commit leaves one way of two
   pub safe-mark : (u : ℕ) (xs : List (Slot G E)) (s : S) → Safe xs s → Safe (mark u xs) s
@@ -52,9 +52,9 @@ module _ {G S E B : Type 0} (R : Rule S E B) where
   -- an acceptance adds a leaf at which no outcome votes no
   pub safe-accept :
       (t : ℕ) (g : G) (e : E) (d : Decision) (xs : List (Slot G E)) (s : S)
-      → Safe xs s → tally R (no-of (R .guard e)) xs s ≡ zero → Safe (xs ++ (slot t g e d ∷ [])) s
-  safe-accept t g e undecided [] s h v = (no-zero (R .guard e s) v, tt, tt)
-  safe-accept t g e committed [] s h v = (no-zero (R .guard e s) v, tt)
+      → Safe xs s → tally R (no-of (guard R e)) xs s ≡ zero → Safe (xs ++ (slot t g e d ∷ [])) s
+  safe-accept t g e undecided [] s h v = (no-zero (guard R e s) v, tt, tt)
+  safe-accept t g e committed [] s h v = (no-zero (guard R e s) v, tt)
   safe-accept t g e d (slot t′ g′ e′ undecided ∷ xs) s h v =
       (h .0, safe-accept t g e d xs s (h .1) (omega arith), safe-accept t g e d xs (R .effect e′ s) (h .2) (omega arith))
   safe-accept t g e d (slot t′ g′ e′ committed ∷ xs) s h v = (h .0, safe-accept t g e d xs (R .effect e′ s) (h .1) v)
@@ -67,24 +67,24 @@ module _ {G S E B : Type 0} (R : Rule S E B) where
 
   -- an event finds no vote of no on the walk down those before it,
   safe-split : (xs : List (Slot G E)) (t : ℕ) (g : G) (e : E) (d : Decision) (ys : List (Slot G E)) (s : S)
-      → Safe (xs ++ (slot t g e d ∷ ys)) s → tally R (no-of (R .guard e)) xs s ≡ zero
-  safe-split [] t g e undecided ys s h = zero-no (R .guard e s) (h .0)
-  safe-split [] t g e committed ys s h = zero-no (R .guard e s) (h .0)
+      → Safe (xs ++ (slot t g e d ∷ ys)) s → tally R (no-of (guard R e)) xs s ≡ zero
+  safe-split [] t g e undecided ys s h = zero-no (guard R e s) (h .0)
+  safe-split [] t g e committed ys s h = zero-no (guard R e s) (h .0)
   safe-split (slot t′ g′ e′ undecided ∷ xs) t g e d ys s h =
       omega (arith, safe-split xs t g e d ys s (h .1), safe-split xs t g e d ys (R .effect e′ s) (h .2))
   safe-split (slot t′ g′ e′ committed ∷ xs) t g e d ys s h = safe-split xs t g e d ys (R .effect e′ s) (h .1)
 
   -- so its guard is true in every outcome of the numbered list,
   pub safe-every : (xs : List (Slot G E)) (t : ℕ) (g : G) (e : E) (d : Decision) (ys : List (Slot G E)) (s : S)
-      → Safe (xs ++ (slot t g e d ∷ ys)) s → every (R .guard e) (outcomes R xs s) ≡ true
+      → Safe (xs ++ (slot t g e d ∷ ys)) s → every (guard R e) (outcomes R xs s) ≡ true
   safe-every xs t g e d ys s h =
-      way-every R (R .guard e) xs s (safe-split xs t g e d ys s h)
+      way-every R (guard R e) xs s (safe-split xs t g e d ys s h)
 
   -- the clause of an account in order on guards says the same
   pub safe-guarded : (s : S) (before rest : List (Slot G E)) → Safe (before ++ rest) s → guarded R s before rest ≡ true
   safe-guarded s before [] h = refl
   safe-guarded s before (slot t g e d ∷ rest) h =
-      and-both (every (R .guard e) (outcomes R before s)) (guarded R s (before ++ (slot t g e d ∷ [])) rest)
+      and-both (every (guard R e) (outcomes R before s)) (guarded R s (before ++ (slot t g e d ∷ [])) rest)
       (safe-every before t g e d rest s h)
       (safe-guarded s (before ++ (slot t g e d ∷ [])) rest (rw (append-assoc before (slot t g e d ∷ []) rest) h))
 
@@ -93,11 +93,11 @@ module _ {G S E B : Type 0} (R : Rule S E B) where
   guarded-safe s before (slot t g e d ∷ rest) h q =
       rw (← append-assoc before (slot t g e d ∷ []) rest)
       (guarded-safe s (before ++ (slot t g e d ∷ [])) rest
-      (safe-accept t g e d before s h (every-way R (R .guard e) before s (and-left (every (R .guard e) (outcomes R before s)) (guarded R s (before ++ (slot t g e d ∷ [])) rest) q)))
-      (and-right (every (R .guard e) (outcomes R before s)) (guarded R s (before ++ (slot t g e d ∷ [])) rest) q))
+      (safe-accept t g e d before s h (every-way R (guard R e) before s (and-left (every (guard R e) (outcomes R before s)) (guarded R s (before ++ (slot t g e d ∷ [])) rest) q)))
+      (and-right (every (guard R e) (outcomes R before s)) (guarded R s (before ++ (slot t g e d ∷ [])) rest) q))
 
 -- two rules whose effects agree wherever the guard holds have the same outcomes of safe events
-module _ {G S E B : Type 0} (R Q : Rule S E B) (same : (e : E) (s : S) → R .guard e s ≡ true → Q .effect e s ≡ R .effect e s) where
+module _ {G S E B : Type 0} (R Q : Rule S E B) (same : (e : E) (s : S) → guard R e s ≡ true → Q .effect e s ≡ R .effect e s) where
   pub outcome-agree : (xs : List (Slot G E)) (n : ℕ) (s : S) → Safe R xs s → outcome Q xs n s ≡ outcome R xs n s
   outcome-agree [] n s h = refl
   outcome-agree (slot t g e committed ∷ xs) n s h = rw (same e s (h .0)) (outcome-agree xs n (R .effect e s) (h .1))

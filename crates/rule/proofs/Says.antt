@@ -1,10 +1,10 @@
 -- A call brings nothing into an account or an entry that the account and the message did not say: by induction on the slots.
 -- Assumes nothing.
 use Prim.Native.Nat.{ℕ, _+_, _≤_, _^_}
-use mathlib.Core.Path.{_≡_, refl}
+use mathlib.Core.Path.{_≡_, refl, sym}
 use mathlib.Core.Bool.{Bool, true, false, cond, not}
 use mathlib.Core.List.{List, [], _∷_, _++_, map}
-use mathlib.Core.Option.{Option, none, some}
+use mathlib.Core.Option.{Option, none, some, Option·some-ne-none}
 use native.Mathlib.Omega.{arith}
 use native.Mathlib.Nat.{le-trans, le-of-eq}
 use lib.Dec.{leb}
@@ -13,11 +13,11 @@ use lib.ListN.{length}
 use borrow.Author.Tests.{leb-false}
 use Rattle.rule.specs.Lists.{keep}
 use Rattle.rule.specs.Rule.{Rule, undecided, committed, Slot, slot, Account, Message, request, commit, abort, Verdict, accept, reject, hold, Weighing, Entry}
-use Rattle.rule.specs.Outcome.{undecidedOf, outcomes}
-use Rattle.rule.specs.Weigh.{unweighed, weigh, decide, decideBehind}
+use Rattle.rule.specs.Outcome.{undecidedOf, outcome, outcomes}
+use Rattle.rule.specs.Weigh.{unweighed, reasonBy, weigh, weighing, decide, decideBehind}
 use Rattle.rule.specs.Step.{Step, named, mark, without, dropping, settledState, applications, unsettled, drainBy, askedBy, drain, settle, asked, committing, aborting, step}
 use Rattle.rule.specs.Call.{written, refusal, callBy, call}
-use Rattle.rule.specs.Says.{SlotsSay, MessageSays, AccountSays, EntriesSay}
+use Rattle.rule.specs.Says.{SlotsSay, MessageSays, WeighingSays, AccountSays, EntriesSay}
 use Rattle.rule.proofs.Outcomes.{outcomes-length}
 
 undecided-few : {G E : Type 0} (xs : List (Slot G E)) → undecidedOf xs ≤ length xs
@@ -25,21 +25,32 @@ undecided-few [] = omega arith
 undecided-few (slot t g e undecided ∷ xs) = omega (arith, undecided-few xs)
 undecided-few (slot t g e committed ∷ xs) = omega (arith, undecided-few xs)
 
-module _ {G S E B : Type 0} (R : Rule S E B) (e : E) (s : S) where
-  -- a count of outcomes is within 2 to the power of the limit on events in progress
-  weighed-few : (xs : List (Slot G E)) → decide R e s xs .weighed ≤ 2 ^ R .progressLimit
-  unfolding decide
-  weighed-few xs = go (leb (R .progressLimit) (length xs)) refl
-    where
-      go : (b : Bool) → leb (R .progressLimit) (length xs) ≡ b
-          → cond b unweighed (record { verdict = weigh R e (outcomes R xs s); weighed = length (outcomes R xs s) }) .weighed ≤ 2 ^ R .progressLimit
-      go true q = omega arith
-      go false q =
-          le-trans (le-of-eq (outcomes-length R xs s)) (pow-mono (omega (arith, undecided-few xs, leb-false (R .progressLimit) (length xs) q)))
+module _ {S E B : Type 0} (R : Rule S E B) (e : E) where
+  -- a reason that a verdict takes over is the one in the state
+  taken-over : (v : Verdict) (s′ : S) (n : ℕ) → reasonBy v (R .reason e s′) ≡ some n → R .reason e s′ ≡ some n
+  taken-over accept s′ n h = absurd (Option·some-ne-none n (sym h))
+  taken-over reject s′ n h = h
+  taken-over hold s′ n h = absurd (Option·some-ne-none n (sym h))
 
-  behind-few : (held xs : List (Slot G E)) → decideBehind R held e s xs .weighed ≤ 2 ^ R .progressLimit
-  behind-few [] xs = weighed-few xs
-  behind-few (x ∷ held) xs = omega arith
+  unweighed-says : WeighingSays R e unweighed
+  unweighed-says = record { few = omega arith; given = λ n h. absurd (Option·some-ne-none n (sym h)) }
+
+module _ {G S E B : Type 0} (R : Rule S E B) (e : E) (s : S) where
+  decide-says : (xs : List (Slot G E)) → WeighingSays R e (decide R e s xs)
+  unfolding decide
+  decide-says xs = go (leb (R .progressLimit) (length xs)) refl
+    where
+      go : (b : Bool) → leb (R .progressLimit) (length xs) ≡ b → WeighingSays R e (cond b unweighed (weighing R e s xs))
+      go true q = unweighed-says R e
+      go false q =
+          record {
+            few = le-trans (le-of-eq (outcomes-length R xs s)) (pow-mono (omega (arith, undecided-few xs, leb-false (R .progressLimit) (length xs) q)));
+            given = λ n h. (outcome R xs 0 s, taken-over R e (weigh R e (outcomes R xs s)) (outcome R xs 0 s) n h);
+          }
+
+  behind-says : (held xs : List (Slot G E)) → WeighingSays R e (decideBehind R held e s xs)
+  behind-says [] xs = decide-says xs
+  behind-says (x ∷ held) xs = unweighed-says R e
 
 module _ {G E : Type 0} (P : ℕ → G → E → Type 0) where
   say-append : (xs ys : List (Slot G E)) → SlotsSay P xs → SlotsSay P ys → SlotsSay P (xs ++ ys)
@@ -92,15 +103,15 @@ module _ {G S E B : Type 0} (R : Rule S E B) (P : ℕ → G → E → Type 0) (Q
   unfolding Says
   drain-says s [] progress h k l = (record { state = h; progress = k; held = tt }, tt)
   drain-says s (slot t g e d ∷ held) progress h k l =
-      by (decide R e s progress .verdict) (decide R e s progress) (weighed-few R e s progress) (λ progress′ k′. drain-says s held progress′ h k′ (l .1))
+      by (decide R e s progress .verdict) (decide R e s progress) (decide-says R e s progress) (λ progress′ k′. drain-says s held progress′ h k′ (l .1))
     where
-      by : (v : Verdict) (w : Weighing) → w .weighed ≤ 2 ^ R .progressLimit → ((progress′ : List (Slot G E)) → SlotsSay P progress′ → Says (drain R s progress′ held))
+      by : (v : Verdict) (w : Weighing) → WeighingSays R e w → ((progress′ : List (Slot G E)) → SlotsSay P progress′ → Says (drain R s progress′ held))
           → Says (drainBy v w (slot t g e d) s progress held (λ (progress′ : List (Slot G E)). drain R s progress′ held))
-      by accept w few rest =
+      by accept w says rest =
           let r = rest (progress ++ (slot t g e undecided ∷ [])) (say-append P progress (slot t g e undecided ∷ []) k (l .0, tt)) in
-          (r .0, ((l .0, few), r .1))
-      by reject w few rest = let r = rest progress k in (r .0, ((l .0, few), r .1))
-      by hold w few rest = (record { state = h; progress = k; held = l }, tt)
+          (r .0, ((l .0, says), r .1))
+      by reject w says rest = let r = rest progress k in (r .0, ((l .0, says), r .1))
+      by hold w says rest = (record { state = h; progress = k; held = l }, tt)
 
   settle-says : (s : S) (progress held : List (Slot G E)) → K s → SlotsSay P progress → SlotsSay P held → Says (settle R s progress held)
   unfolding Says settle
@@ -110,7 +121,7 @@ module _ {G S E B : Type 0} (R : Rule S E B) (P : ℕ → G → E → Type 0) (Q
 
   step-says : (a : Account G S E) (m : Message G E) → AccountSays R P Q K W a → MessageSays P Q m → Says (step R a m)
   unfolding Says asked committing aborting
-  step-says a (request t g e) h k = (by (decideBehind R (a .held) e (a .state) (a .progress) .verdict), ((k, behind-few R e (a .state) (a .held) (a .progress)), tt))
+  step-says a (request t g e) h k = (by (decideBehind R (a .held) e (a .state) (a .progress) .verdict), ((k, behind-says R e (a .state) (a .held) (a .progress)), tt))
     where
       by : (v : Verdict) → AccountSays R P Q K W (askedBy v (a .state) (a .progress) (a .held) (slot t g e undecided))
       by accept = record { state = h .state; progress = say-append P (a .progress) (slot t g e undecided ∷ []) (h .progress) (k, tt); held = h .held }

@@ -9,7 +9,7 @@ use mathlib.Core.List.{List, [], _∷_, _++_, map}
 use lib.Dec.{eqb}
 use borrow.Author.Tests.{eq-eqb}
 use Rattle.rule.specs.Lists.{some-of, keep}
-use Rattle.rule.specs.Rule.{Rule, Decision, undecided, committed, Slot, slot}
+use Rattle.rule.specs.Rule.{Rule, guard, Decision, undecided, committed, Slot, slot}
 use Rattle.rule.specs.Step.{named, mark, without}
 use Rattle.rule.specs.History.{Fate, waiting, votedNo, ongoing, wasApplied, wasDropped, Line, line, touch, owners}
 use Rattle.rule.proofs.Lists.{or-left, or-right}
@@ -200,7 +200,7 @@ module _ {G S E B : Type 0} (R : Rule S E B) where
     dropped-past : {t : ℕ} {g : G} {e : E} {s s′ : S} {lines : List (Line G E)} {progress held : List (Slot G E)}
         → Past s lines s′ progress held → Past s (line t g e wasDropped 1 ∷ lines) s′ progress held
     applied-past : {t : ℕ} {g : G} {e : E} {s s′ : S} {lines : List (Line G E)} {progress held : List (Slot G E)}
-        → R .guard e s ≡ true → Past (R .effect e s) lines s′ progress held → Past s (line t g e wasApplied 1 ∷ lines) s′ progress held
+        → guard R e s ≡ true → Past (R .effect e s) lines s′ progress held → Past s (line t g e wasApplied 1 ∷ lines) s′ progress held
 
   -- what an entry makes of the live lines it makes of all: what has ended is nobody's
   pub past-noting : (u : ℕ) (f : Fate) (j : ℕ) {progress held progress′ held′ : List (Slot G E)}
@@ -220,14 +220,14 @@ module _ {G S E B : Type 0} (R : Rule S E B) where
 
   -- An applied entry moves the oldest event, committed, from the live lines to the past.
   live-apply : (t : ℕ) (g : G) (e : E) (s : S) {lines : List (Line G E)} {progress held : List (Slot G E)}
-      → Live lines (slot t g e committed ∷ progress) held → R .guard e s ≡ true → some-of (named t) progress ≡ false → some-of (named t) held ≡ false
+      → Live lines (slot t g e committed ∷ progress) held → guard R e s ≡ true → some-of (named t) progress ≡ false → some-of (named t) held ≡ false
       → Past s (noting t wasApplied 1 lines) (R .effect e s) progress held
   live-apply t g e s (no-then l) q p h = no-past (live-apply t g e s l q p h)
   live-apply t g e s (dropped-then l) q p h = dropped-past (live-apply t g e s l q p h)
   live-apply t g e s (going-then l) q p h = rw (eq-eqb t t refl) (applied-past q (live-then (live-skip t wasApplied 1 l p h)))
 
   pub past-apply : (t : ℕ) (g : G) (e : E) {s s′ : S} {lines : List (Line G E)} {progress held : List (Slot G E)}
-      → Past s lines s′ (slot t g e committed ∷ progress) held → R .guard e s′ ≡ true → some-of (named t) progress ≡ false → some-of (named t) held ≡ false
+      → Past s lines s′ (slot t g e committed ∷ progress) held → guard R e s′ ≡ true → some-of (named t) progress ≡ false → some-of (named t) held ≡ false
       → Past s (noting t wasApplied 1 lines) (R .effect e s′) progress held
   past-apply t g e (live-then {s = s} l) q p h = live-apply t g e s l q p h
   past-apply t g e (no-past l) q p h = no-past (past-apply t g e l q p h)

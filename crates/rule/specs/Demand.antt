@@ -7,7 +7,7 @@ use mathlib.Core.Bool.{Bool, true, false}
 use mathlib.Core.List.{List, [], _∷_, _++_}
 use lib.ListN.{length}
 use Rattle.rule.specs.Lists.{keep}
-use Rattle.rule.specs.Rule.{Rule, Decision, undecided, committed, Slot, slot, Account, Message, hold, Weighing, Entry, voted, noted, applied, dropped, newAccount}
+use Rattle.rule.specs.Rule.{Rule, guard, Decision, undecided, committed, Slot, slot, Account, Message, hold, Weighing, Entry, voted, noted, applied, dropped, newAccount}
 use Rattle.rule.specs.Outcome.{undecidedOf, bit}
 use Rattle.rule.specs.Exact.{chosenState}
 use Rattle.rule.specs.Run.{run, GuardsHold}
@@ -123,7 +123,7 @@ module _ {G S E B : Type 0} (R : Rule S E B) where
     pub ahead :
         (before behind : List (Line G E)) (t : ℕ) (g : G) (e : E) (d : Decision) (k : ℕ)
         → lines ≡ before ++ (line t g e (ongoing d) k ∷ behind)
-        → (n : ℕ) → n < 2 ^ undecidedOf (course before) → R .guard e (chosenState R (course before) (bit n) (R .fresh)) ≡ true
+        → (n : ℕ) → n < 2 ^ undecidedOf (course before) → guard R e (chosenState R (course before) (bit n) (R .fresh)) ≡ true
     -- where those before any place are the events applied, and then those in progress
     pub along :
         (before behind : List (Line G E)) (chosen : ℕ → Bool)

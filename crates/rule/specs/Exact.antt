@@ -5,9 +5,10 @@ use mathlib.Core.Path.{_≡_}
 use mathlib.Core.Logic.{_↔_}
 use mathlib.Core.Bool.{Bool, true, false, cond}
 use mathlib.Core.List.{List, [], _∷_, _++_}
+use mathlib.Core.Option.{Option, none, some}
 use lib.Count.{ones}
 use lib.ListN.{length, getD}
-use Rattle.rule.specs.Rule.{Rule, Slot, slot, undecided, committed, accept, reject, hold}
+use Rattle.rule.specs.Rule.{Rule, guard, Slot, slot, undecided, committed, accept, reject, hold}
 use Rattle.rule.specs.Outcome.{undecidedOf, appliedIn, bit, outcome, outcomes}
 use Rattle.rule.specs.Weigh.{weigh, decideBehind}
 
@@ -32,7 +33,7 @@ module _ {G S E B : Type 0} (R : Rule S E B) where
 
   -- the guard in an outcome, by its number
   abbrev pub guardIn : E → S → List (Slot G E) → ℕ → Bool
-  guardIn e s xs n = R .guard e (outcome R xs n s)
+  guardIn e s xs n = guard R e (outcome R xs n s)
 
   -- what the list of outcomes is
   pub record Numbered (xs : List (Slot G E)) (s : S) : Type 0 where
@@ -71,10 +72,15 @@ module _ {G S E B : Type 0} (R : Rule S E B) where
   -- how a request is decided, whatever is in progress and held
   pub record Decided (e : E) (s : S) (progress held : List (Slot G E)) : Type 0 where
     -- held unweighed behind a held request (4.4),
-    pub behind : (held ≡ [] → ⊥) → decideBehind R held e s progress ≡ record { verdict = hold; weighed = 0 }
+    pub behind : (held ≡ [] → ⊥) → decideBehind R held e s progress ≡ record { verdict = hold; weighed = 0; reason = none }
     -- and with no place free in progress (4.4);
-    pub full : held ≡ [] → R .progressLimit ≤ length progress → decideBehind R held e s progress ≡ record { verdict = hold; weighed = 0 }
+    pub full : held ≡ [] → R .progressLimit ≤ length progress → decideBehind R held e s progress ≡ record { verdict = hold; weighed = 0; reason = none }
     -- else as it is weighed, with 2^u (4.5);
-    pub free : held ≡ [] → length progress < R .progressLimit → decideBehind R held e s progress ≡ record { verdict = weigh R e (outcomes R progress s); weighed = 2 ^ undecidedOf progress }
+    pub free : held ≡ [] → length progress < R .progressLimit → decideBehind R held e s progress .verdict ≡ weigh R e (outcomes R progress s)
+    pub count : held ≡ [] → length progress < R .progressLimit → decideBehind R held e s progress .weighed ≡ 2 ^ undecidedOf progress
+    -- and where it is rejected, with the reason in outcome 0, which there is (4.7);
+    pub rejected : held ≡ [] → length progress < R .progressLimit → weigh R e (outcomes R progress s) ≡ reject
+        → (n : ℕ) × (decideBehind R held e s progress .reason ≡ some n) × (R .reason e (outcome R progress 0 s) ≡ some n)
+    pub other : (decideBehind R held e s progress .verdict ≡ reject → ⊥) → decideBehind R held e s progress .reason ≡ none
     -- with no event in progress it is never held (13.3 e)
     pub idle : held ≡ [] → 1 ≤ R .progressLimit → progress ≡ [] → decideBehind R held e s progress .verdict ≡ hold → ⊥

@@ -4,7 +4,7 @@ use mathlib.Core.Path.{_≡_}
 use mathlib.Core.Logic.{_↔_}
 use mathlib.Core.Bool.{true}
 use mathlib.Core.List.{List, [], _∷_, _++_}
-use Rattle.rule.specs.Rule.{Rule, Account, Message}
+use Rattle.rule.specs.Rule.{Rule, guard, Account, Message}
 use Rattle.rule.specs.Run.{run, GuardsHold}
 use Rattle.rule.specs.Call.{call, reached}
 use Rattle.rule.specs.History.{history}
@@ -15,7 +15,7 @@ module _ {S E B : Type 0} (R : Rule S E B) where
     pub none : run R [] s ≡ s
     pub more : (e : E) → run R (es ++ (e ∷ [])) s ≡ R .effect e (run R es s)
     -- and finds its guard true there
-    pub guards : GuardsHold R es s ↔ ((before behind : List E) (e : E) → es ≡ before ++ (e ∷ behind) → R .guard e (run R before s) ≡ true)
+    pub guards : GuardsHold R es s ↔ ((before behind : List E) (e : E) → es ≡ before ++ (e ∷ behind) → guard R e (run R before s) ≡ true)
 
 module _ {G S E B : Type 0} (R : Rule S E B) where
   pub record CallsOn (a : Account G S E) (ms : List (Message G E)) : Type 0 where

@@ -6,7 +6,7 @@ use mathlib.Core.List.{List, [], _∷_, _++_}
 use lib.Dec.{leb}
 use lib.ListN.{length}
 use Rattle.rule.specs.Lists.{every, some-of}
-use Rattle.rule.specs.Rule.{Rule, Verdict, accept, reject, hold, undecided, committed, Slot, slot, Account}
+use Rattle.rule.specs.Rule.{Rule, guard, Verdict, accept, reject, hold, undecided, committed, Slot, slot, Account}
 use Rattle.rule.specs.Outcome.{outcomes}
 use Rattle.rule.specs.Run.{run, GuardsHold}
 use Rattle.rule.specs.Weigh.{decide}
@@ -42,7 +42,7 @@ module _ {G S E B : Type 0} (R : Rule S E B) where
   -- the guard of every event is true in all outcomes of the older ones (6.5)
   abbrev pub guarded : S → (before rest : List (Slot G E)) → Bool
   guarded s before [] = true
-  guarded s before (slot t g e d ∷ rest) = every (R .guard e) (outcomes R before s) && guarded s (before ++ (slot t g e d ∷ [])) rest
+  guarded s before (slot t g e d ∷ rest) = every (guard R e) (outcomes R before s) && guarded s (before ++ (slot t g e d ∷ [])) rest
 
   -- the oldest held request, if there is one, would be held again (6.7)
   abbrev pub oldestStaysHeld : S → (progress held : List (Slot G E)) → Bool
@@ -70,5 +70,5 @@ module _ {G S E B : Type 0} (R : Rule S E B) where
 -- an event whose guard holds leads from one to another; and a run leads to each of them
 pub record Sound {S E B : Type 0} (R : Rule S E B) : Type 0 where
   pub fresh : R .fits (R .fresh) ≡ true
-  pub kept : (e : E) (s : S) → R .guard e s ≡ true → R .fits s ≡ true → R .fits (R .effect e s) ≡ true
+  pub kept : (e : E) (s : S) → guard R e s ≡ true → R .fits s ≡ true → R .fits (R .effect e s) ≡ true
   pub reachable : (s : S) → R .fits s ≡ true → (es : List E) × GuardsHold R es (R .fresh) × (run R es (R .fresh) ≡ s)

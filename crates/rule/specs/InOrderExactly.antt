@@ -7,7 +7,7 @@ use mathlib.Core.Logic.{_↔_, _⊎_}
 use mathlib.Core.Bool.{true, false}
 use mathlib.Core.List.{List, _∷_, _++_}
 use lib.ListN.{length}
-use Rattle.rule.specs.Rule.{Rule, Decision, undecided, Slot, slot, Account, Message, newAccount}
+use Rattle.rule.specs.Rule.{Rule, guard, Decision, undecided, Slot, slot, Account, Message, newAccount}
 use Rattle.rule.specs.Outcome.{undecidedOf, bit}
 use Rattle.rule.specs.Exact.{chosenState}
 use Rattle.rule.specs.Call.{call, reached}
@@ -34,7 +34,7 @@ module _ {G S E B : Type 0} (R : Rule S E B) where
     pub guards :
         (before behind : List (Slot G E)) (t : ℕ) (g : G) (e : E) (d : Decision)
         → a .progress ≡ before ++ (slot t g e d ∷ behind)
-        → (n : ℕ) → n < 2 ^ undecidedOf before → R .guard e (chosenState R before (bit n) (a .state)) ≡ true
+        → (n : ℕ) → n < 2 ^ undecidedOf before → guard R e (chosenState R before (bit n) (a .state)) ≡ true
     -- what is oldest in progress is undecided (6.6),
     pub oldest :
         (behind : List (Slot G E)) (t : ℕ) (g : G) (e : E) (d : Decision)
@@ -45,8 +45,8 @@ module _ {G S E B : Type 0} (R : Rule S E B) where
         (behind : List (Slot G E)) (t : ℕ) (g : G) (e : E) (d : Decision)
         → a .held ≡ slot t g e d ∷ behind
         → (R .progressLimit ≤ length (a .progress))
-        ⊎ (((n : ℕ) × (n < 2 ^ undecidedOf (a .progress)) × (R .guard e (chosenState R (a .progress) (bit n) (a .state)) ≡ true))
-        × ((n : ℕ) × (n < 2 ^ undecidedOf (a .progress)) × (R .guard e (chosenState R (a .progress) (bit n) (a .state)) ≡ false)))
+        ⊎ (((n : ℕ) × (n < 2 ^ undecidedOf (a .progress)) × (guard R e (chosenState R (a .progress) (bit n) (a .state)) ≡ true))
+        × ((n : ℕ) × (n < 2 ^ undecidedOf (a .progress)) × (guard R e (chosenState R (a .progress) (bit n) (a .state)) ≡ false)))
 
   abbrev pub InOrderExactly : Account G S E → Type 0
   InOrderExactly a = (isInOrder R a ≡ true) ↔ Ordered a

@@ -6,14 +6,14 @@ use mathlib.Core.Path.{_≡_}
 use mathlib.Core.Logic.{_↔_}
 use mathlib.Core.Bool.{Bool, true, false, cond}
 use mathlib.Core.List.{List, [], _∷_, _++_, map}
-use mathlib.Core.Option.{none, some}
+use mathlib.Core.Option.{Option, none, some}
 use lib.Dec.{eqb}
 use lib.ListN.{length, getD}
 use Rattle.rule.specs.Lists.{every, some-of, keep, numbers}
-use Rattle.rule.specs.Rule.{Rule, Decision, undecided, committed, Slot, slot, Account, Message, request, commit, abort, accept, reject, hold, Weighing, Entry, voted, noted, applied, dropped, newAccount}
+use Rattle.rule.specs.Rule.{Rule, absent, guard, Decision, undecided, committed, Slot, slot, Account, Message, request, commit, abort, Verdict, accept, reject, hold, Weighing, Entry, voted, noted, applied, dropped, newAccount}
 use Rattle.rule.specs.Outcome.{undecidedOf, appliedIn, bit}
 use Rattle.rule.specs.Exact.{numberOf}
-use Rattle.rule.specs.Weigh.{unweighed}
+use Rattle.rule.specs.Weigh.{unweighed, reasonBy}
 use Rattle.rule.specs.Step.{Step, named, markOne, dropping}
 use Rattle.rule.specs.Call.{namedCommitted, refused, taken, written, callBy}
 use Rattle.rule.specs.History.{Fate, waiting, votedNo, ongoing, wasApplied, wasDropped, Line, line, live, fateBy, transactionOf, brings, isEnd, note, notes, begun, afterCall, Seen, linesFrom, allEntries}
@@ -56,10 +56,18 @@ module _ {G E : Type 0} where
     pub marks : markOne t (slot t g e d) ≡ slot t g e committed
     pub leaves : (u ≡ t → ⊥) → markOne u (slot t g e d) ≡ slot t g e d
 
+-- a guard and the reason against it; the reason that each verdict takes over
+module _ {S E B : Type 0} (R : Rule S E B) where
+  pub record GuardLiteral (e : E) (s : S) (n : ℕ) (reason : Option ℕ) : Type 0 where
+    pub holds : (guard R e s ≡ true) ↔ (R .reason e s ≡ none)
+    pub fails : (guard R e s ≡ false) ↔ ((k : ℕ) × (R .reason e s ≡ some k))
+    pub absences : map absent (none ∷ some n ∷ []) ≡ true ∷ false ∷ []
+    pub reasons : map (λ (v : Verdict). reasonBy v reason) (accept ∷ reject ∷ hold ∷ []) ≡ none ∷ reason ∷ none ∷ []
+
 -- an unweighed request; the entries of an answer; a new account; what is dropped
 module _ {G S E B : Type 0} (R : Rule S E B) where
   pub record CallLiteral (n t : ℕ) (g : G) (e : E) (d : Decision) (xs : List (Entry G E B)) (a : Account G S E) (step : Step G S E B) : Type 0 where
-    pub unweighed′ : unweighed ≡ record { verdict = hold; weighed = 0 }
+    pub unweighed′ : unweighed ≡ record { verdict = hold; weighed = 0; reason = none }
     pub refusedWrites : written {G = G} {E = E} {B = B} (refused n) ≡ []
     pub takenWrites : written (taken xs) ≡ xs
     pub refusedCall : callBy (some n) a step ≡ record { account = a; answer = refused n }
@@ -72,7 +80,7 @@ module _ {G E B : Type 0} where
   -- an entry of each kind, and of each verdict, in this order: accepted, rejected, held, noted, applied, dropped
   abbrev pub ofEach : (t n : ℕ) → G → E → B → List (Entry G E B)
   ofEach t n g e b =
-      voted t g e (record { verdict = accept; weighed = n }) ∷ voted t g e (record { verdict = reject; weighed = n }) ∷ voted t g e (record { verdict = hold; weighed = n }) ∷
+      voted t g e (record { verdict = accept; weighed = n; reason = none }) ∷ voted t g e (record { verdict = reject; weighed = n; reason = some n }) ∷ voted t g e (record { verdict = hold; weighed = n; reason = none }) ∷
       noted t g ∷ applied t g e b ∷ dropped t g e ∷ []
 
   pub record EntryLiteral (t n k : ℕ) (g h : G) (e c : E) (b : B) (lines : List (Line G E)) : Type 0 where

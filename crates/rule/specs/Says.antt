@@ -1,9 +1,11 @@
--- What entries speak of: only events that messages brought, states that runs lead to, and counts of outcomes. `P` is asked of every event with its transaction and filing,
+-- What entries speak of: only events that messages brought, states that runs lead to, counts of outcomes, and reasons that the rule gives. `P` is asked of every event with its transaction and filing,
 -- `Q` of every commit's transaction and filing, `K` of every state, `W` of what is shown of one.
 -- Assumes nothing.
 use Prim.Native.Nat.{ℕ, _≤_, _^_}
+use mathlib.Core.Path.{_≡_}
 use mathlib.Core.List.{List, [], _∷_}
-use Rattle.rule.specs.Rule.{Rule, Slot, slot, Account, Message, request, commit, abort, Entry, voted, noted, applied, dropped}
+use mathlib.Core.Option.{some}
+use Rattle.rule.specs.Rule.{Rule, Slot, slot, Account, Message, request, commit, abort, Weighing, Entry, voted, noted, applied, dropped}
 
 module _ {G E : Type 0} (P : ℕ → G → E → Type 0) where
   -- so of every slot
@@ -18,6 +20,12 @@ module _ {G E : Type 0} (P : ℕ → G → E → Type 0) (Q : ℕ → G → Type
   MessageSays (commit t g) = Q t g
   MessageSays (abort t g) = Unit {0}
 
+module _ {S E B : Type 0} (R : Rule S E B) where
+  -- so of a vote: its count of outcomes is within 2 to the power of the limit on events in progress, and its reason, if it has one, is the rule's against that event in some state
+  pub record WeighingSays (e : E) (w : Weighing) : Type 0 where
+    pub few : w .weighed ≤ 2 ^ R .progressLimit
+    pub given : (n : ℕ) → w .reason ≡ some n → (s : S) × (R .reason e s ≡ some n)
+
 module _ {G S E B : Type 0} (R : Rule S E B) (P : ℕ → G → E → Type 0) (Q : ℕ → G → Type 0) (K : S → Type 0) (W : B → Type 0) where
   -- so of an account
   pub record AccountSays (a : Account G S E) : Type 0 where
@@ -25,9 +33,9 @@ module _ {G S E B : Type 0} (R : Rule S E B) (P : ℕ → G → E → Type 0) (Q
     pub progress : SlotsSay P (a .progress)
     pub held : SlotsSay P (a .held)
 
-  -- so of an entry, whose count of outcomes is within 2 to the power of the limit on events in progress
+  -- so of an entry
   abbrev pub EntrySays : Entry G E B → Type 0
-  EntrySays (voted t g e w) = P t g e × (w .weighed ≤ 2 ^ R .progressLimit)
+  EntrySays (voted t g e w) = P t g e × WeighingSays R e w
   EntrySays (noted t g) = Q t g
   EntrySays (applied t g e b) = P t g e × W b
   EntrySays (dropped t g e) = P t g e
