@@ -11,6 +11,7 @@ use Rattle.rule.specs.InOrder.{guarded}
 use Rattle.rule.proofs.Lists.{and-left, and-right}
 use Rattle.events.specs.declared.Event.{Event}
 use Rattle.events.specs.declared.State.{State}
+use Rattle.events.specs.Events.{guardOf}
 use Rattle.events.specs.Panel.{firstPanel}
 use Rattle.events.specs.Range.{rangeOf, everyIn, someIn, rangeAfter, rangePerhaps, rangeThrough}
 use Rattle.events.specs.Glance.{TellsOf, AnswersOf, RangeTells, RangeAnswers}
@@ -18,6 +19,7 @@ use Rattle.events.proofs.States.{range-every, range-some, range-after, 
 use Rattle.events.proofs.Newest.{outcomes-past, outcomes-more, outcomes-first}
 
 pub range-tells : RangeTells
+unfolding guard guardOf
 range-tells progressLimit heldLimit s ss e =
     record { all = range-every e s ss; any = range-some e (s ∷ ss); after = λ h. range-after e s ss h; perhaps = λ h. range-perhaps e s ss h }
 

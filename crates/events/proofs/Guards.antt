@@ -1,7 +1,7 @@
 -- The rows against the table: a row holds in a state exactly if the event's guard does; where it does, the effect is the table's and its balance is within bounds.
 -- Assumes nothing.
 use Prim.Native.Nat.{ℕ, _+_, _-_, _≤_}
-use mathlib.Core.Path.{_≡_, refl, _∙_, ap}
+use mathlib.Core.Path.{_≡_, refl, sym, _∙_, ap}
 use mathlib.Core.Logic.{_⊎_, inl, inr}
 use mathlib.Core.Bool.{Bool, true, false, cond, _&&_, _||_, not, false≢true}
 use native.Mathlib.Omega.{arith}
@@ -18,6 +18,7 @@ use Rattle.events.specs.declared.condition.Condition.{Condition}
 use Rattle.events.specs.Events.{limit, isNew, isOpened, isClosed, guardOf, tableEffect, effectOf, stateFits}
 use Rattle.events.specs.Condition.{most, conditionOf, takes, holds}
 use Rattle.events.specs.Range.{everyIn, joined, moved, rangeAfter, rangePerhaps, storedEffect, storedAfter, storedPerhaps}
+use Rattle.events.proofs.Against.{tableGuard, guard-table}
 
 -- two tests that follow from each other
 pub alike : (p q : Bool) → (p ≡ true → q ≡ true) → (q ≡ true → p ≡ true) → p ≡ q
@@ -59,13 +60,16 @@ regroup true true r s = refl
 regroup true false r s = refl
 regroup false q r s = refl
 
-pub guard-holds : (e : Event) (s : State) → holds (conditionOf e) s ≡ guardOf e s
-guard-holds (Open a) s = rw (le-leb 0 (s .balance) (omega arith)) (and-true (isNew (s .life) && leb a limit))
-guard-holds (Withdraw a) s = refl
-guard-holds (Deposit a) s =
+row-holds : (e : Event) (s : State) → holds (conditionOf e) s ≡ tableGuard e s
+row-holds (Open a) s = rw (le-leb 0 (s .balance) (omega arith)) (and-true (isNew (s .life) && leb a limit))
+row-holds (Withdraw a) s = refl
+row-holds (Deposit a) s =
     regroup (isOpened (s .life)) (leb 1 a) (leb a limit) (leb (s .balance) (limit - a))
     ∙ ap (λ (b : Bool). isOpened (s .life) && leb 1 a && b) (under a (s .balance))
-guard-holds Close s = rw (le-leb 0 (s .balance) (omega arith)) (and-true (isOpened (s .life) && true) ∙ and-true (isOpened (s .life)))
+row-holds Close s = rw (le-leb 0 (s .balance) (omega arith)) (and-true (isOpened (s .life) && true) ∙ and-true (isOpened (s .life)))
+
+pub guard-holds : (e : Event) (s : State) → holds (conditionOf e) s ≡ guardOf e s
+guard-holds e s = row-holds e s ∙ sym (guard-table e s)
 
 -- a row asks for an opened account, or for no balance in particular
 abbrev pub Plain : Condition → Type 0
@@ -83,12 +87,15 @@ unfolding effectOf
 effect-table e s h = rw h
 
 -- and the balance after it fits in four bytes
-pub effect-fits : (e : Event) (s : State) → s .balance ≤ most → guardOf e s ≡ true → tableEffect e s .balance ≤ most
-effect-fits (Open a) s h g = let few = leb-true a limit (and-right (isNew (s .life)) (leb a limit) g) in omega arith
-effect-fits (Withdraw a) s h g = omega arith
-effect-fits (Deposit a) s h g =
+table-small : (e : Event) (s : State) → s .balance ≤ most → tableGuard e s ≡ true → tableEffect e s .balance ≤ most
+table-small (Open a) s h g = let few = leb-true a limit (and-right (isNew (s .life)) (leb a limit) g) in omega arith
+table-small (Withdraw a) s h g = omega arith
+table-small (Deposit a) s h g =
     let few = leb-true (s .balance + a) limit (and-right (isOpened (s .life) && leb 1 a) (leb (s .balance + a) limit) g) in omega arith
-effect-fits Close s h g = omega arith
+table-small Close s h g = omega arith
+
+pub effect-fits : (e : Event) (s : State) → s .balance ≤ most → guardOf e s ≡ true → tableEffect e s .balance ≤ most
+effect-fits e s h g = table-small e s h (sym (guard-table e s) ∙ g)
 
 -- "opened, or balance 0"
 pub fits-same : (s : State) → (leb (s .balance) limit && (isOpened (s .life) || eqb (s .balance) 0)) ≡ stateFits s

@@ -1,3 +1,4 @@
+pub mod Against
 pub mod Guards
 pub mod Ranges
 pub mod States

@@ -4,6 +4,7 @@ use Prim.Native.Nat.{ℕ}
 use native.Mathlib.Nat.{max-zero}
 use mathlib.Core.Path.{refl}
 use mathlib.Core.List.{List}
+use borrow.Author.Tests.{ne-eqb}
 use Rattle.rule.specs.Rule.{Slot}
 use Rattle.events.specs.declared.Event.{Event}
 use Rattle.events.specs.declared.Range.{Range}
@@ -30,6 +31,9 @@ literal-holds =
             opened = refl;
             closed = refl;
             highest = refl;
+            reasonBytes = refl;
+            reasonNone = refl;
+            reasonSome = λ h. rw (ne-eqb a 0 h) refl;
           };
       one = λ b. record { new = refl; opened = refl; closed = refl; newList = refl; openedList = rw (max-zero b) refl; closedList = refl; none = refl };
       row =

@@ -7,6 +7,7 @@ use mathlib.Core.List.{List, [], _∷_}
 use native.Mathlib.Omega.{arith}
 use lib.Dec.{leb, eqb}
 use borrow.Author.Tests.{leb-true, le-leb, eqb-true}
+use Rattle.rule.specs.Rule.{guard}
 use Rattle.rule.specs.Run.{run, GuardsHold}
 use Rattle.rule.specs.InOrder.{Sound}
 use Rattle.rule.proofs.Lists.{and-left, and-right}
@@ -15,15 +16,16 @@ use Rattle.events.specs.declared.Event.the-variants.{Open, Withdraw, Dep
 use Rattle.events.specs.declared.Life.{Life}
 use Rattle.events.specs.declared.Life.the-variants.{New, Opened, Closed}
 use Rattle.events.specs.declared.State.{State}
-use Rattle.events.specs.Events.{limit, isNew, isOpened, guardOf, tableEffect, effectOf, stateFits}
+use Rattle.events.specs.Events.{limit, isNew, isOpened, reasonOf, guardOf, tableEffect, effectOf, stateFits}
 use Rattle.events.specs.Panel.{firstPanel}
+use Rattle.events.proofs.Against.{tableGuard, guard-table, panel-guard}
 use Rattle.events.proofs.Guards.{effect-table}
 
 -- a balance within the limit, on an account that is open
 opened-fits : (l : Bool) (b : ℕ) → l ≡ true → b ≤ limit → (leb b limit && cond l true (eqb b 0)) ≡ true
 opened-fits l b h k = rw (h, le-leb b limit k)
 
-table-fits : (e : Event) (s : State) → guardOf e s ≡ true → stateFits s ≡ true → stateFits (tableEffect e s) ≡ true
+table-fits : (e : Event) (s : State) → tableGuard e s ≡ true → stateFits s ≡ true → stateFits (tableEffect e s) ≡ true
 table-fits (Open a) s g h = opened-fits true a refl (leb-true a limit (and-right (isNew (s .life)) (leb a limit) g))
 table-fits (Withdraw a) s g h =
     opened-fits (isOpened (s .life)) (s .balance - a)
@@ -36,7 +38,7 @@ table-fits (Deposit a) s g h =
 table-fits Close s g h = refl
 
 -- an effect keeps a balance within the limit, whether its guard holds or not
-table-kept : (e : Event) (s : State) → guardOf e s ≡ true → s .balance ≤ limit → tableEffect e s .balance ≤ limit
+table-kept : (e : Event) (s : State) → tableGuard e s ≡ true → s .balance ≤ limit → tableEffect e s .balance ≤ limit
 table-kept (Open a) s g h = leb-true a limit (and-right (isNew (s .life)) (leb a limit) g)
 table-kept (Withdraw a) s g h = omega arith
 table-kept (Deposit a) s g h = leb-true (s .balance + a) limit (and-right (isOpened (s .life) && leb 1 a) (leb (s .balance + a) limit) g)
@@ -47,18 +49,19 @@ unfolding effectOf
 balance-kept e s h = go (guardOf e s) refl
   where
     go : (b : Bool) → guardOf e s ≡ b → cond b (tableEffect e s) s .balance ≤ limit
-    go true q = table-kept e s q h
+    go true q = table-kept e s (sym (guard-table e s) ∙ q) h
     go false q = h
 
 module _ (progressLimit heldLimit : ℕ) where
   -- a run that leads to each state in order: none, an Open, an Open and a Close
   state-run : (life : Life) (b : ℕ) → stateFits (record { life = life; balance = b }) ≡ true
       → (es : List Event) × GuardsHold (firstPanel progressLimit heldLimit) es (firstPanel progressLimit heldLimit .fresh) × (run (firstPanel progressLimit heldLimit) es (firstPanel progressLimit heldLimit .fresh) ≡ record { life = life; balance = b })
-  unfolding effectOf
+  unfolding effectOf guard guardOf reasonOf
   state-run New b h = ([], tt, ap (λ (n : ℕ). record { life = New; balance = n }) (sym (eqb-true b 0 (and-right (leb b limit) (eqb b 0) h))))
   state-run Opened b h =
       let fits = and-left (leb b limit) true h in
-      (Open b ∷ [], (fits, tt), rw fits)
+      let opens = guard-table (Open b) (record { life = New; balance = 0 }) ∙ fits in
+      (Open b ∷ [], (opens, tt), effect-table (Open b) (record { life = New; balance = 0 }) opens)
   state-run Closed b h =
       (Open 0 ∷ Close ∷ [], (refl, (refl, tt)), ap (λ (n : ℕ). record { life = Closed; balance = n }) (sym (eqb-true b 0 (and-right (leb b limit) (eqb b 0) h))))
 
@@ -66,6 +69,6 @@ module _ (progressLimit heldLimit : ℕ) where
   sound =
       record {
         fresh = refl;
-        kept = λ e s g h. ap stateFits (effect-table e s g) ∙ table-fits e s g h;
+        kept = λ e s g h. let g′ = rw (panel-guard progressLimit heldLimit e) at g in ap stateFits (effect-table e s g′) ∙ table-fits e s (sym (guard-table e s) ∙ g′) h;
         reachable = λ s h. state-run (s .life) (s .balance) h;
       }

@@ -17,9 +17,10 @@ use Rattle.events.specs.declared.Life.the-variants.{New, Opened, Closed}
 use Rattle.events.specs.declared.State.{State}
 use Rattle.events.specs.declared.Range.{Range}
 use Rattle.events.specs.declared.condition.Condition.{Condition}
-use Rattle.events.specs.Events.{limit, isOpened, guardOf, effectOf}
+use Rattle.events.specs.Events.{limit, isOpened, guardOf, tableEffect, effectOf}
 use Rattle.events.specs.Condition.{conditionOf, chosen, takes, holds}
 use Rattle.events.specs.Range.{rangeOf, rangeOfOne, joined, everyIn, someIn, rangeAfter, rangePerhaps}
+use Rattle.events.proofs.Against.{tableGuard, guard-table}
 use Rattle.events.proofs.Guards.{and-true, opened-life, guard-holds, Plain, plain, effect-table}
 use Rattle.events.proofs.Ranges.{alone, all-of, any-of, Formed, Some, opened-alone, all-joined, any-joined, one-formed, one-some, joined-formed, some-joined, range-cons}
 
@@ -177,11 +178,13 @@ after-joined Close x y some some′ h k = refl
 
 -- one state after it
 after-one : (e : Event) (s : State) → guardOf e s ≡ true → rangeAfter e (rangeOfOne s) ≡ rangeOfOne (effectOf e s)
-after-one (Open a) s g = rw (effect-table (Open a) s g)
-after-one (Withdraw a) s g = rw (effect-table (Withdraw a) s g) (rw (opened-life (s .life) (and-left (isOpened (s .life)) (leb 1 a) (and-left (isOpened (s .life) && leb 1 a) (leb a (s .balance)) g))))
-after-one (Deposit a) s g =
-    rw (effect-table (Deposit a) s g) (rw (opened-life (s .life) (and-left (isOpened (s .life)) (leb 1 a) (and-left (isOpened (s .life) && leb 1 a) (leb (s .balance + a) limit) g))))
-after-one Close s g = rw (effect-table Close s g)
+after-one e s g = rw (effect-table e s g) (by e (sym (guard-table e s) ∙ g))
+  where
+    by : (e : Event) → tableGuard e s ≡ true → rangeAfter e (rangeOfOne s) ≡ rangeOfOne (tableEffect e s)
+    by (Open a) g = refl
+    by (Withdraw a) g = rw (opened-life (s .life) (and-left (isOpened (s .life)) (leb 1 a) (and-left (isOpened (s .life) && leb 1 a) (leb a (s .balance)) g)))
+    by (Deposit a) g = rw (opened-life (s .life) (and-left (isOpened (s .life)) (leb 1 a) (and-left (isOpened (s .life) && leb 1 a) (leb (s .balance + a) limit) g)))
+    by Close g = refl
 
 module _ (e : Event) where
   pub range-after : (s : State) (ss : List State) → every (guardOf e) (s ∷ ss) ≡ true → rangeAfter e (rangeOf (s ∷ ss)) ≡ rangeOf (map (effectOf e) (s ∷ ss))

@@ -7,6 +7,7 @@ use mathlib.Core.Bool.{Bool, true, false, cond, _&&_, false≢true, true≢false
 use native.Mathlib.Omega.{arith}
 use lib.Dec.{leb, eqb, lit<}
 use borrow.Author.Tests.{leb-true, leb-false, le-leb, eqb-true, eq-eqb, ne-eqb}
+use Rattle.rule.specs.Rule.{guard}
 use Rattle.rule.proofs.Lists.{either, and-left, and-right, and-both}
 use Rattle.events.specs.declared.Event.{Event}
 use Rattle.events.specs.declared.Event.the-variants.{Open, Withdraw, Deposit, Close}
@@ -15,7 +16,9 @@ use Rattle.events.specs.declared.Life.the-variants.{New, Opened}
 use Rattle.events.specs.declared.State.{State}
 use Rattle.events.specs.Events.{limit, isNew, isOpened, guardOf, effectOf, isBlankEvent}
 use Rattle.events.specs.Kinds.{eventKind, amountOf, eventOf}
+use Rattle.events.specs.Panel.{firstPanel}
 use Rattle.events.specs.Table.{Guards, Effects, Fields, TableHolds, KindsHold, BlankIsOpenZero}
+use Rattle.events.proofs.Against.{tableGuard, guard-table, panel-guard, reasons}
 use Rattle.events.proofs.Guards.{new-life, opened-life, effect-table}
 
 -- the tests by themselves
@@ -40,14 +43,17 @@ three-exactly p q r f g k =
 guards : (progressLimit heldLimit : ℕ) (s : State) (a : ℕ) → Guards progressLimit heldLimit s a
 guards progressLimit heldLimit s a =
     record {
-      opens = two-exactly (isNew (s .life)) (leb a limit) (new-exactly (s .life)) (leb-exactly a limit);
-      withdraws = three-exactly (isOpened (s .life)) (leb 1 a) (leb a (s .balance)) (opened-exactly (s .life)) (leb-exactly 1 a) (leb-exactly a (s .balance));
-      deposits = three-exactly (isOpened (s .life)) (leb 1 a) (leb (s .balance + a) limit) (opened-exactly (s .life)) (leb-exactly 1 a) (leb-exactly (s .balance + a) limit);
-      closes = opened-exactly (s .life);
+      opens = by (Open a) (two-exactly (isNew (s .life)) (leb a limit) (new-exactly (s .life)) (leb-exactly a limit));
+      withdraws = by (Withdraw a) (three-exactly (isOpened (s .life)) (leb 1 a) (leb a (s .balance)) (opened-exactly (s .life)) (leb-exactly 1 a) (leb-exactly a (s .balance)));
+      deposits = by (Deposit a) (three-exactly (isOpened (s .life)) (leb 1 a) (leb (s .balance + a) limit) (opened-exactly (s .life)) (leb-exactly 1 a) (leb-exactly (s .balance + a) limit));
+      closes = by Close (opened-exactly (s .life));
     }
+  where
+    by : {A : Type 0} (e : Event) → (tableGuard e s ≡ true) ↔ A → (guard (firstPanel progressLimit heldLimit) e s ≡ true) ↔ A
+    by e k = rw (panel-guard progressLimit heldLimit e, guard-table e s) k
 
 effects : (progressLimit heldLimit : ℕ) (s : State) (a : ℕ) → Effects progressLimit heldLimit s a
-unfolding effectOf
+unfolding effectOf guard guardOf
 effects progressLimit heldLimit s a =
     record {
       opens = λ h. effect-table (Open a) s h;
@@ -81,6 +87,7 @@ pub table-holds : TableHolds
 table-holds progressLimit heldLimit s a =
     record {
       guards = guards progressLimit heldLimit s a;
+      reasons = reasons progressLimit heldLimit s a;
       effects = effects progressLimit heldLimit s a;
       tableEffects = record { opens = refl; withdraws = refl; deposits = refl; closes = refl };
       fields = fields progressLimit heldLimit s a;

@@ -6,6 +6,7 @@ use mathlib.Core.Path.{_≡_}
 use mathlib.Core.Bool.{Bool, true, false, cond, _&&_, _||_, not}
 use mathlib.Core.Logic.{_↔_}
 use mathlib.Core.List.{List, [], _∷_, _++_, map}
+use mathlib.Core.Option.{none, some}
 use lib.Dec.{leb}
 use Rattle.rule.specs.Rule.{Slot, slot, undecided, committed}
 use Rattle.events.specs.declared.Event.{Event}
@@ -14,7 +15,7 @@ use Rattle.events.specs.declared.Life.{Life}
 use Rattle.events.specs.declared.Life.the-variants.{New, Opened, Closed}
 use Rattle.events.specs.declared.State.{State}
 use Rattle.events.specs.declared.Range.{Range}
-use Rattle.events.specs.Events.{limit, isNew, isOpened, isClosed}
+use Rattle.events.specs.Events.{limit, isNew, isOpened, isClosed, reasonByte, reasonFrom}
 use Rattle.events.specs.Kinds.{eventKind, amountOf, eventOf}
 use Rattle.events.specs.Table.{events}
 use Rattle.events.specs.Glance.{Occurs}
@@ -33,6 +34,9 @@ pub record EventLiteral (a : ℕ) : Type 0 where
   pub opened : map isOpened (New ∷ Opened ∷ Closed ∷ []) ≡ false ∷ true ∷ false ∷ []
   pub closed : map isClosed (New ∷ Opened ∷ Closed ∷ []) ≡ false ∷ false ∷ true ∷ []
   pub highest : limit ≡ 1_000_000
+  pub reasonBytes : map reasonByte (none ∷ some a ∷ []) ≡ 0 ∷ a ∷ []
+  pub reasonNone : reasonFrom 0 ≡ none
+  pub reasonSome : (a ≡ 0 → ⊥) → reasonFrom a ≡ some a
 
 -- the range of one state
 pub record OneLiteral (b : ℕ) : Type 0 where

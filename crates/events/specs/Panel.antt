@@ -5,14 +5,14 @@ use Rattle.rule.specs.Rule.{Rule}
 use Rattle.events.specs.declared.Event.{Event}
 use Rattle.events.specs.declared.Life.the-variants.{New}
 use Rattle.events.specs.declared.State.{State}
-use Rattle.events.specs.Events.{guardOf, tableEffect, effectOf, stateFits}
+use Rattle.events.specs.Events.{reasonOf, tableEffect, effectOf, stateFits}
 
 module _ (progressLimit heldLimit : ℕ) where
-  -- the commit rule of these guards with an effect: an applied entry shows the balance
+  -- the commit rule of these reasons with an effect: an applied entry shows the balance
   abbrev ruleOf : (Event → State → State) → Rule State Event ℕ
   ruleOf effect =
       record {
-        guard = guardOf;
+        reason = reasonOf;
         effect = effect;
         fresh = record { life = New; balance = 0 };
         shown = λ (s : State). s .balance;

@@ -1,12 +1,14 @@
--- The table of events (3.1) row by row, over all amounts and balances and every life, in plain numbers: each guard exactly if, each effect as an equation; what else the first
--- panel's rule has; the kinds and amounts (9.2) and the blank's event (2.5).
+-- The table of events (3.1) row by row, over all amounts and balances and every life, in plain numbers: each guard exactly if, each reason against it (3.4) exactly if, each effect as an
+-- equation; what else the first panel's rule has; the kinds and amounts (9.2) and the blank's event (2.5).
 -- Assumes nothing.
-use Prim.Native.Nat.{ℕ, _+_, _-_, _≤_}
+use Prim.Native.Nat.{ℕ, _+_, _-_, _≤_, _<_}
 use mathlib.Core.Path.{_≡_}
-use mathlib.Core.Logic.{_↔_}
+use mathlib.Core.Logic.{_↔_, _⊎_}
 use mathlib.Core.Bool.{true, false, _&&_}
 use mathlib.Core.List.{List, [], _∷_, map}
+use mathlib.Core.Option.{some}
 use lib.Dec.{leb}
+use Rattle.rule.specs.Rule.{guard}
 use Rattle.events.specs.declared.Event.{Event}
 use Rattle.events.specs.declared.Event.the-variants.{Open, Withdraw, Deposit, Close}
 use Rattle.events.specs.declared.Life.the-variants.{New, Opened, Closed}
@@ -22,6 +24,23 @@ module _ (progressLimit heldLimit : ℕ) (s : State) (a : ℕ) where
     pub withdraws : (guard (firstPanel progressLimit heldLimit) (Withdraw a) s ≡ true) ↔ ((s .life ≡ Opened) × (1 ≤ a) × (a ≤ s .balance))
     pub deposits : (guard (firstPanel progressLimit heldLimit) (Deposit a) s ≡ true) ↔ ((s .life ≡ Opened) × (1 ≤ a) × (s .balance + a ≤ 1_000_000))
     pub closes : (guard (firstPanel progressLimit heldLimit) Close s ≡ true) ↔ (s .life ≡ Opened)
+
+  -- the reason against each event, exactly if: 1 the wrong life; then 2, of a withdrawal or a deposit of 0; then 3, of a withdrawal of more than there is, and 4, of an open or a deposit
+  -- over the limit; and there is no other
+  pub record Reasons : Type 0 where
+    pub openLife : (firstPanel progressLimit heldLimit .reason (Open a) s ≡ some 1) ↔ (s .life ≡ New → ⊥)
+    pub openOver : (firstPanel progressLimit heldLimit .reason (Open a) s ≡ some 4) ↔ ((s .life ≡ New) × (1_000_000 < a))
+    pub withdrawLife : (firstPanel progressLimit heldLimit .reason (Withdraw a) s ≡ some 1) ↔ (s .life ≡ Opened → ⊥)
+    pub withdrawZero : (firstPanel progressLimit heldLimit .reason (Withdraw a) s ≡ some 2) ↔ ((s .life ≡ Opened) × (a ≡ 0))
+    pub withdrawFew : (firstPanel progressLimit heldLimit .reason (Withdraw a) s ≡ some 3) ↔ ((s .life ≡ Opened) × (s .balance < a))
+    pub depositLife : (firstPanel progressLimit heldLimit .reason (Deposit a) s ≡ some 1) ↔ (s .life ≡ Opened → ⊥)
+    pub depositZero : (firstPanel progressLimit heldLimit .reason (Deposit a) s ≡ some 2) ↔ ((s .life ≡ Opened) × (a ≡ 0))
+    pub depositOver : (firstPanel progressLimit heldLimit .reason (Deposit a) s ≡ some 4) ↔ ((s .life ≡ Opened) × (1 ≤ a) × (1_000_000 < s .balance + a))
+    pub closeLife : (firstPanel progressLimit heldLimit .reason Close s ≡ some 1) ↔ (s .life ≡ Opened → ⊥)
+    pub openOthers : (n : ℕ) → firstPanel progressLimit heldLimit .reason (Open a) s ≡ some n → (n ≡ 1) ⊎ (n ≡ 4)
+    pub withdrawOthers : (n : ℕ) → firstPanel progressLimit heldLimit .reason (Withdraw a) s ≡ some n → (n ≡ 1) ⊎ ((n ≡ 2) ⊎ (n ≡ 3))
+    pub depositOthers : (n : ℕ) → firstPanel progressLimit heldLimit .reason (Deposit a) s ≡ some n → (n ≡ 1) ⊎ ((n ≡ 2) ⊎ (n ≡ 4))
+    pub closeOthers : (n : ℕ) → firstPanel progressLimit heldLimit .reason Close s ≡ some n → n ≡ 1
 
   -- the column of effects, where the guard holds; where it does not, nothing changes
   pub record Effects : Type 0 where
@@ -48,6 +67,7 @@ module _ (progressLimit heldLimit : ℕ) (s : State) (a : ℕ) where
 
   pub record Table : Type 0 where
     pub guards : Guards
+    pub reasons : Reasons
     pub effects : Effects
     pub tableEffects : TableEffects
     pub fields : Fields

@@ -5,7 +5,7 @@ use crate::State;
 ghost use mathlib.Core.Path.{_≡_};
 ghost use Prim.Native.Nat.{_-_};
 ghost use Rattle.events.specs.Events.{limit};
-ghost use Rattle.events.specs.Condition.{conditionOf, chosen, takes, asks, holds};
+ghost use Rattle.events.specs.Condition.{conditionOf, chosen, takes, asks};
 
 // What an event asks: that its amount is possible at all, a life, and a balance that is at least the bound (upward), or at most the bound.
 // It goes one way only, so that of many balances the lowest or the highest tells of all of them, and the other one whether there is any.
@@ -52,15 +52,6 @@ impl Condition {
         }
     }
 
-    // Whether it holds in this state.
-    pub(crate) fn holds(self, state: State) -> bool
-        ensures { λ r. ⌜ r ≡ holds self state ⌝ }
-    {
-        let life = state.life;
-        self.asks(life.is_new(), life.is_opened(), life.is_closed())
-            & self.takes(state.balance, state.balance)
-    }
-
     // The one of three tests that is that of the life asked, where the amount is possible.
     pub(crate) fn asks(self, new: bool, opened: bool, closed: bool) -> bool
         ensures { λ r. ⌜ r ≡ asks self new opened closed ⌝ }
@@ -93,7 +84,7 @@ fn chosen(life: Life, new: bool, opened: bool, closed: bool) -> bool
 }
 
 // What an amount leaves of the limit; 0 where it is above it.
-fn under_limit(amount: u32) -> u32
+pub(crate) fn under_limit(amount: u32) -> u32
     ensures { λ r. ⌜ r ≡ limit - amount ⌝ }
 {
     if amount <= State::LIMIT {

@@ -1,6 +1,7 @@
 // The events of an account: what each asks of a state and does to it, its kind and amount, and what weighing knows of outcomes. An event is taken apart in this crate alone.
 mod condition;
 mod glance;
+mod reasons;
 
 use condition::Condition;
 ghost use mathlib.Core.Path.{_≡_};
@@ -64,12 +65,11 @@ impl Event {
     // The event of a blank place.
     pub const BLANK: Event = Event::Open(0);
 
-    // Whether the event may be applied in this state.
+    // Whether the event may be applied in this state: nothing is against it.
     pub fn guard(self, state: State) -> bool
         ensures { λ r. ⌜ r ≡ guardOf self state ⌝ }
     {
-        let condition = Condition::of(self);
-        condition.holds(state)
+        self.reason(state) == 0
     }
 
     // The state after the event; the same state where its guard fails.
