@@ -22,7 +22,7 @@ forms-hold =
             commits = λ t g e d. refl;
             blanks = λ x. (blank-place x, λ e. ap isBlank e);
           };
-      entry = λ t g e n. record { accepted = refl; rejected = refl; held = refl; noted = refl; applied = refl; dropped = refl };
+      entry = λ t g e n k. record { accepted = refl; rejected = refl; held = refl; noted = refl; applied = refl; dropped = refl };
       weighing = record { back = weighing-back; forth = weighing-forth };
       entries =
           λ xs.

@@ -1,7 +1,7 @@
 -- By computing.
 -- Assumes nothing.
 use mathlib.Core.Path.{refl}
-use borrow.Author.Tests.{eqb-true, eq-eqb}
+use borrow.Author.Tests.{eqb-true, eq-eqb, ne-eqb}
 use Rattle.filing.specs.Literal.{LiteralHolds}
 
 pub literal-holds : LiteralHolds
@@ -17,7 +17,7 @@ literal-holds =
             isFiled = λ second. (eqb-true second 0, eq-eqb second 0);
           };
       both =
-          λ t n g e d.
+          λ t n k g e d.
           record {
             decisions = refl;
             decisionsBack = refl;
@@ -27,7 +27,7 @@ literal-holds =
             committed = refl;
             commits = refl;
             accepts = refl;
-            rejects = refl;
+            rejects = λ h. rw (ne-eqb k 0 h) refl;
             holds = refl;
             acceptsBack = refl;
             rejectsBack = refl;

@@ -1,14 +1,16 @@
 -- A place and its slot are each other's, a weighing and the rule's too; and what passes for the blank is the blank.
 -- Assumes nothing.
-use Prim.Native.Nat.{ℕ}
-use mathlib.Core.Path.{_≡_, refl, ap, sym, _∙_}
+use Prim.Native.Nat.{ℕ, zero, suc}
+use native.Mathlib.Omega.{arith}
+use mathlib.Core.Path.{_≡_, refl, ap, ap₂, sym, _∙_}
 use mathlib.Core.Bool.{Bool, true, false, _&&_, false≢true}
 use mathlib.Core.List.{List, [], _∷_, map}
 use lib.Dec.{eqb}
-use borrow.Author.Tests.{eqb-true}
+use mathlib.Core.Option.{Option, none, some}
+use borrow.Author.Tests.{eqb-true, ne-eqb}
 use Rattle.rule.specs.Rule as rule
 use Rattle.rule.proofs.Lists.{and-left, and-right}
-use Rattle.events.specs.Events.{isBlankEvent}
+use Rattle.events.specs.Events.{reasonByte, reasonFrom, isBlankEvent}
 use Rattle.events.proofs.Table.{blank-is-open-zero}
 use Rattle.filing.specs.declared.Filed.{Filed}
 use Rattle.filing.specs.declared.Decision.{Decision}
@@ -50,11 +52,22 @@ verdict-forth rule.accept = refl
 verdict-forth rule.reject = refl
 verdict-forth rule.hold = refl
 
-pub weighing-back : (w : Weighing) → weighingIn (weighingOf w) ≡ w
-weighing-back w = ap (λ (v : Verdict). record { verdict = v; weighed = w .weighed }) (verdict-back (w .verdict))
+-- a reason and its number
+reason-back : (n : ℕ) → reasonByte (reasonFrom n) ≡ n
+reason-back zero = refl
+reason-back (suc n) = rw (ne-eqb (suc n) 0 (λ h. omega arith)) refl
 
-pub weighing-forth : (w : rule.Weighing) → weighingOf (weighingIn w) ≡ w
-weighing-forth w = ap (λ (v : rule.Verdict). record { verdict = v; weighed = w .weighed }) (verdict-forth (w .verdict))
+reason-forth : (o : Option ℕ) → (o ≡ some 0 → ⊥) → reasonFrom (reasonByte o) ≡ o
+reason-forth none h = refl
+reason-forth (some zero) h = absurd (h refl)
+reason-forth (some (suc n)) h = rw (ne-eqb (suc n) 0 (λ k. omega arith)) refl
+
+pub weighing-back : (w : Weighing) → weighingIn (weighingOf w) ≡ w
+weighing-back w = ap₂ (λ (v : Verdict) (n : ℕ). record { verdict = v; weighed = w .weighed; reason = n }) (verdict-back (w .verdict)) (reason-back (w .reason))
+
+pub weighing-forth : (w : rule.Weighing) → (w .reason ≡ some 0 → ⊥) → weighingOf (weighingIn w) ≡ w
+weighing-forth w h =
+    ap₂ (λ (v : rule.Verdict) (o : Option ℕ). record { verdict = v; weighed = w .weighed; reason = o }) (verdict-forth (w .verdict)) (reason-forth (w .reason) h)
 
 -- a decision as the rule has it
 pub undecided-is : (d : Decision) → isUndecided d ≡ true → d ≡ Undecided

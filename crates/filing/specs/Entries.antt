@@ -6,6 +6,7 @@ use mathlib.Core.List.{List, _∷_, _++_, map}
 use lib.ListN.{length, replicate}
 use Rattle.rule.specs.Rule as rule
 use Rattle.events.specs.declared.Event.{Event}
+use Rattle.events.specs.Events.{reasonByte, reasonFrom}
 use Rattle.filing.specs.declared.Filed.{Filed}
 use Rattle.filing.specs.declared.Verdict.{Verdict}
 use Rattle.filing.specs.declared.Verdict.the-variants.{Accepted, Rejected, Held}
@@ -39,12 +40,12 @@ verdictIn rule.accept = Accepted
 verdictIn rule.reject = Rejected
 verdictIn rule.hold = Held
 
--- a weighing as the rule has it, and back
+-- a weighing as the rule has it, and back; 0 stands for no reason
 abbrev pub weighingOf : Weighing → rule.Weighing
-weighingOf w = record { verdict = verdictOf (w .verdict); weighed = w .weighed }
+weighingOf w = record { verdict = verdictOf (w .verdict); weighed = w .weighed; reason = reasonFrom (w .reason) }
 
 abbrev pub weighingIn : rule.Weighing → Weighing
-weighingIn w = record { verdict = verdictIn (w .verdict); weighed = w .weighed }
+weighingIn w = record { verdict = verdictIn (w .verdict); weighed = w .weighed; reason = reasonByte (w .reason) }
 
 -- the rule's entry as a value
 abbrev pub entryOf : RuleEntry → Entry

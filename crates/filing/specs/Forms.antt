@@ -5,6 +5,7 @@ use mathlib.Core.Path.{_≡_}
 use mathlib.Core.Logic.{_↔_}
 use mathlib.Core.Bool.{true, false}
 use mathlib.Core.List.{List, [], _∷_, map}
+use mathlib.Core.Option.{none, some}
 use lib.ListN.{length, take, drop, replicate}
 use Rattle.rule.specs.Rule as rule
 use Rattle.events.specs.declared.Event.{Event}
@@ -32,18 +33,18 @@ pub record SlotForm : Type 0 where
   pub blanks : (x : Slot) → (isBlank x ≡ true) ↔ (x ≡ record { transaction = 0; filed = record { second = 0 }; event = Open 0; decision = Undecided })
 
 -- an entry of each kind, a vote by its verdict
-pub record EntryForm (t : ℕ) (g : Filed) (e : Event) (n : ℕ) : Type 0 where
-  pub accepted : entryOf (rule.voted t g e (record { verdict = rule.accept; weighed = n })) ≡ record { transaction = t; filed = g; told = Voted e (record { verdict = Accepted; weighed = n }) }
-  pub rejected : entryOf (rule.voted t g e (record { verdict = rule.reject; weighed = n })) ≡ record { transaction = t; filed = g; told = Voted e (record { verdict = Rejected; weighed = n }) }
-  pub held : entryOf (rule.voted t g e (record { verdict = rule.hold; weighed = n })) ≡ record { transaction = t; filed = g; told = Voted e (record { verdict = Held; weighed = n }) }
+pub record EntryForm (t : ℕ) (g : Filed) (e : Event) (n k : ℕ) : Type 0 where
+  pub accepted : entryOf (rule.voted t g e (record { verdict = rule.accept; weighed = n; reason = none })) ≡ record { transaction = t; filed = g; told = Voted e (record { verdict = Accepted; weighed = n; reason = 0 }) }
+  pub rejected : entryOf (rule.voted t g e (record { verdict = rule.reject; weighed = n; reason = some k })) ≡ record { transaction = t; filed = g; told = Voted e (record { verdict = Rejected; weighed = n; reason = k }) }
+  pub held : entryOf (rule.voted t g e (record { verdict = rule.hold; weighed = n; reason = none })) ≡ record { transaction = t; filed = g; told = Voted e (record { verdict = Held; weighed = n; reason = 0 }) }
   pub noted : entryOf (rule.noted t g) ≡ record { transaction = t; filed = g; told = Noted }
   pub applied : entryOf (rule.applied t g e n) ≡ record { transaction = t; filed = g; told = Applied e n }
   pub dropped : entryOf (rule.dropped t g e) ≡ record { transaction = t; filed = g; told = Dropped e }
 
--- a weighing keeps its verdict and its count
+-- a weighing keeps its verdict, its count and its reason, but that a reason of 0 is none
 pub record WeighingForm : Type 0 where
   pub back : (w : Weighing) → weighingIn (weighingOf w) ≡ w
-  pub forth : (w : rule.Weighing) → weighingOf (weighingIn w) ≡ w
+  pub forth : (w : rule.Weighing) → (w .reason ≡ some 0 → ⊥) → weighingOf (weighingIn w) ≡ w
 
 -- the entries of a call, in the order in which they were written
 pub record EntriesForm (xs : List RuleEntry) (entries : Entries) : Type 0 where
@@ -60,7 +61,7 @@ pub record TestForm : Type 0 where
 
 pub record FormsHold : Type 0 where
   pub slots : SlotForm
-  pub entry : (t : ℕ) (g : Filed) (e : Event) (n : ℕ) → EntryForm t g e n
+  pub entry : (t : ℕ) (g : Filed) (e : Event) (n k : ℕ) → EntryForm t g e n k
   pub weighing : WeighingForm
   pub entries : (xs : List RuleEntry) → EntriesForm xs (entriesOf xs)
   pub only : (x : RuleEntry) → EntriesForm (x ∷ []) (onlyEntry (entryOf x))

@@ -6,6 +6,7 @@ use mathlib.Core.Path.{_≡_}
 use mathlib.Core.Logic.{_↔_}
 use mathlib.Core.Bool.{true}
 use mathlib.Core.List.{[], _∷_, map}
+use mathlib.Core.Option.{none, some}
 use Rattle.rule.specs.Rule as rule
 use Rattle.events.specs.declared.Event.{Event}
 use Rattle.events.specs.declared.Event.the-variants.{Open}
@@ -26,7 +27,7 @@ pub record BlankLiteral : Type 0 where
   pub isFiled : (second : ℕ) → (isBlankFiled (record { second = second }) ≡ true) ↔ (second ≡ 0)
 
 -- decisions and verdicts in the rule's form and back, alone, in a place and in a weighing
-pub record BothLiteral (t n : ℕ) (g : Filed) (e : Event) (d : Decision) : Type 0 where
+pub record BothLiteral (t n k : ℕ) (g : Filed) (e : Event) (d : Decision) : Type 0 where
   pub decisions : map decisionOf (Undecided ∷ Committed ∷ []) ≡ rule.undecided ∷ rule.committed ∷ []
   pub decisionsBack : map decisionIn (rule.undecided ∷ rule.committed ∷ []) ≡ Undecided ∷ Committed ∷ []
   pub verdicts : map verdictOf (Accepted ∷ Rejected ∷ Held ∷ []) ≡ rule.accept ∷ rule.reject ∷ rule.hold ∷ []
@@ -34,13 +35,13 @@ pub record BothLiteral (t n : ℕ) (g : Filed) (e : Event) (d : Decision) : Type
   pub undecided : slotOf (record { transaction = t; filed = g; event = e; decision = Undecided }) ≡ rule.slot t g e rule.undecided
   pub committed : slotOf (record { transaction = t; filed = g; event = e; decision = Committed }) ≡ rule.slot t g e rule.committed
   pub commits : committedSlot (record { transaction = t; filed = g; event = e; decision = d }) ≡ record { transaction = t; filed = g; event = e; decision = Committed }
-  pub accepts : weighingOf (record { verdict = Accepted; weighed = n }) ≡ record { verdict = rule.accept; weighed = n }
-  pub rejects : weighingOf (record { verdict = Rejected; weighed = n }) ≡ record { verdict = rule.reject; weighed = n }
-  pub holds : weighingOf (record { verdict = Held; weighed = n }) ≡ record { verdict = rule.hold; weighed = n }
-  pub acceptsBack : weighingIn (record { verdict = rule.accept; weighed = n }) ≡ record { verdict = Accepted; weighed = n }
-  pub rejectsBack : weighingIn (record { verdict = rule.reject; weighed = n }) ≡ record { verdict = Rejected; weighed = n }
-  pub holdsBack : weighingIn (record { verdict = rule.hold; weighed = n }) ≡ record { verdict = Held; weighed = n }
+  pub accepts : weighingOf (record { verdict = Accepted; weighed = n; reason = 0 }) ≡ record { verdict = rule.accept; weighed = n; reason = none }
+  pub rejects : (k ≡ 0 → ⊥) → weighingOf (record { verdict = Rejected; weighed = n; reason = k }) ≡ record { verdict = rule.reject; weighed = n; reason = some k }
+  pub holds : weighingOf (record { verdict = Held; weighed = n; reason = 0 }) ≡ record { verdict = rule.hold; weighed = n; reason = none }
+  pub acceptsBack : weighingIn (record { verdict = rule.accept; weighed = n; reason = none }) ≡ record { verdict = Accepted; weighed = n; reason = 0 }
+  pub rejectsBack : weighingIn (record { verdict = rule.reject; weighed = n; reason = some k }) ≡ record { verdict = Rejected; weighed = n; reason = k }
+  pub holdsBack : weighingIn (record { verdict = rule.hold; weighed = n; reason = none }) ≡ record { verdict = Held; weighed = n; reason = 0 }
 
 pub record LiteralHolds : Type 0 where
   pub blanks : BlankLiteral
-  pub both : (t n : ℕ) (g : Filed) (e : Event) (d : Decision) → BothLiteral t n g e d
+  pub both : (t n k : ℕ) (g : Filed) (e : Event) (d : Decision) → BothLiteral t n k g e d

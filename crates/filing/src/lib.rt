@@ -30,10 +30,11 @@ pub enum Verdict {
     Held,
 }
 
-// A decision, and the number of outcomes weighed for it.
+// A decision, the number of outcomes weighed for it, and the reason of a rejection, 0 for any other.
 pub struct Weighing {
     pub verdict: Verdict,
     pub weighed: u32,
+    pub reason: u8,
 }
 
 // What an entry says of its transaction: a vote with its weighing, a commit noted, an event applied with the balance after it, an event dropped.
@@ -147,6 +148,7 @@ impl Weighing {
     pub const UNWEIGHED: Weighing = Weighing {
         verdict: Verdict::Held,
         weighed: 0,
+        reason: 0,
     };
 }
 
