@@ -13,8 +13,8 @@ use Rattle.entry.specs.Bytes.{bytesOfEntry, bytesOfEntries}
 use Rattle.entry.specs.Answers.{saidOfEntry, writeOf}
 
 pub record EntryReadingForm : Type 0 where
-  pub found : (e : Entry) (account whole : ℕ) → saidOfEntry (Found e account whole) ≡ record { entry = some e; account = account; length′ = whole }
-  pub nothing : saidOfEntry Nothing ≡ record { entry = none; account = 0; length′ = 0 }
+  pub found : (e : Entry) (kind account whole : ℕ) → saidOfEntry (Found e kind account whole) ≡ record { entry = some e; kind = kind; account = account; length′ = whole }
+  pub nothing : saidOfEntry Nothing ≡ record { entry = none; kind = 0; account = 0; length′ = 0 }
 
 -- strings of bytes, one after the other
 abbrev pub together : List (List ℕ) → List ℕ

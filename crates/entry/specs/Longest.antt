@@ -7,17 +7,19 @@ use mathlib.Core.Bool.{Bool, true, false}
 use mathlib.Core.List.{List, [], _∷_, _++_}
 use lib.Dec.{ltb}
 use lib.ListN.{length}
-use Rattle.rule.specs.Lists.{every}
+use Rattle.rule.specs.Lists.{every, keep}
 use Rattle.rule.specs.Rule as rule
 use Rattle.rule.specs.Tests.{test, firstOf}
 use Rattle.rule.specs.Call as call
 use Rattle.rule.specs.InOrder.{isInOrder}
 use Rattle.rule.specs.Written.{Writes}
 use Rattle.events.specs.declared.Event.{Event}
-use Rattle.events.specs.declared.Event.the-variants.{Deposit}
+use Rattle.events.specs.declared.Event.the-variants.{Withdraw, Deposit}
 use Rattle.events.specs.declared.Life.the-variants.{Opened}
 use Rattle.events.specs.declared.State.{State}
 use Rattle.filing.specs.declared.Filed.{Filed}
+use Rattle.filing.specs.declared.Verdict.{Verdict}
+use Rattle.filing.specs.declared.Verdict.the-variants.{Accepted, Rejected, Held}
 use Rattle.filing.specs.declared.Told.{Told}
 use Rattle.filing.specs.declared.Told.the-variants.{Voted, Noted, Applied, Dropped}
 use Rattle.filing.specs.declared.Entry.{Entry}
@@ -26,6 +28,11 @@ use Rattle.filing.specs.Entries.{RuleEntry, entriesOf}
 use Rattle.layout.specs.Answers.{saidOfWriting}
 use Rattle.entry.specs.Bytes.{bytesOfEntries, wholesOf, listOf}
 use Rattle.entry.specs.Answers.{writeOf}
+
+abbrev pub isRejected : Verdict → Bool
+isRejected Accepted = false
+isRejected Rejected = true
+isRejected Held = false
 
 abbrev pub isApplied : Told → Bool
 isApplied (Voted e weighing) = false
@@ -39,22 +46,32 @@ isVote Noted = false
 isVote (Applied e balance) = false
 isVote (Dropped e) = false
 
--- the length of a commit's entries and of an abort's, with these applied and these votes after its own entry
+abbrev pub isRejection : Told → Bool
+isRejection (Voted e weighing) = isRejected (weighing .verdict)
+isRejection Noted = false
+isRejection (Applied e balance) = false
+isRejection (Dropped e) = false
+
+-- how many of these are rejections
+abbrev pub rejections : List Entry → ℕ
+rejections es = length (keep (λ (x : Entry). isRejection (x .told)) es)
+
+-- the length of a commit's entries and of an abort's, with these applied and these votes after its own entry: a vote has 18 bytes, and a rejection one more
 pub record Sized (applied votes : List Entry) : Type 0 where
   pub commit : (t : ℕ) (g : Filed)
-      → wholesOf (record { transaction = t; filed = g; told = Noted } ∷ (applied ++ votes)) ≡ 11 + (20 * length applied + 18 * length votes)
+      → wholesOf (record { transaction = t; filed = g; told = Noted } ∷ (applied ++ votes)) ≡ 11 + (20 * length applied + (18 * length votes + rejections votes))
   pub abort : (t : ℕ) (g : Filed) (e : Event)
-      → wholesOf (record { transaction = t; filed = g; told = Dropped e } ∷ (applied ++ votes)) ≡ 16 + (20 * length applied + 18 * length votes)
+      → wholesOf (record { transaction = t; filed = g; told = Dropped e } ∷ (applied ++ votes)) ≡ 16 + (20 * length applied + (18 * length votes + rejections votes))
 
 abbrev pub CallsSized : Type 0
 CallsSized =
     (applied votes : List Entry) → every (λ (x : Entry). isApplied (x .told)) applied ≡ true → every (λ (x : Entry). isVote (x .told)) votes ≡ true
     → Sized applied votes
 
--- these are no more than 17 entries and 315 bytes
+-- these are no more than 17 entries and 323 bytes
 pub record CallFits (xs : List RuleEntry) : Type 0 where
   pub count : entriesOf xs .count ≤ 17
-  pub bytes : (account : ℕ) → length (bytesOfEntries account (listOf (entriesOf xs))) ≤ 315
+  pub bytes : (account : ℕ) → length (bytesOfEntries account (listOf (entriesOf xs))) ≤ 323
 
 -- no call writes more
 pub record CallsFit : Type 0 where
@@ -67,17 +84,20 @@ pub record CallsFit : Type 0 where
   pub called : (R : rule.Rule State Event ℕ) (a : rule.Account Filed State Event) (m : rule.Message Filed Event)
       → R .progressLimit ≤ places → R .heldLimit ≤ places → isInOrder R a ≡ true → CallFits (call.written (call.call R a m .answer))
 
--- so a call's entries are refused exactly if the buffer has less than 315 bytes
+-- so a call's entries are refused exactly if the buffer has less than 323 bytes
 abbrev pub CallsRefused : Type 0
 CallsRefused =
     (xs : List RuleEntry) → CallFits xs → (account : ℕ) (buffer : List ℕ)
-    → saidOfWriting (writeOf (entriesOf xs) account buffer .answer) .refusal ≡ firstOf (test (ltb (length buffer) 315) 4 ∷ [])
+    → saidOfWriting (writeOf (entriesOf xs) account buffer .answer) .refusal ≡ firstOf (test (ltb (length buffer) 323) 4 ∷ [])
 
--- a deposit of 1 in a place
+-- a deposit of 1 in a place; a withdrawal that is held, of more than there will be
 abbrev pub deposit : (transaction : ℕ) → rule.Decision → RuleSlot
 deposit t d = rule.slot t blankFiled (Deposit 1) d
 
--- an account with eight deposits in progress, of which only the oldest is undecided, and eight held
+abbrev pub withdrawal : (transaction : ℕ) → RuleSlot
+withdrawal t = rule.slot t blankFiled (Withdraw 109) rule.undecided
+
+-- an account with eight deposits in progress, of which only the oldest is undecided, and eight withdrawals held, each of one step more than there is once the deposits are applied
 abbrev pub fullAccount : rule.Account Filed State Event
 fullAccount =
     record {
@@ -86,15 +106,14 @@ fullAccount =
           deposit 1 rule.undecided ∷ deposit 2 rule.committed ∷ deposit 3 rule.committed ∷ deposit 4 rule.committed ∷
           deposit 5 rule.committed ∷ deposit 6 rule.committed ∷ deposit 7 rule.committed ∷ deposit 8 rule.committed ∷ [];
       held =
-          deposit 9 rule.undecided ∷ deposit 10 rule.undecided ∷ deposit 11 rule.undecided ∷ deposit 12 rule.undecided ∷
-          deposit 13 rule.undecided ∷ deposit 14 rule.undecided ∷ deposit 15 rule.undecided ∷ deposit 16 rule.undecided ∷ [];
+          withdrawal 9 ∷ withdrawal 10 ∷ withdrawal 11 ∷ withdrawal 12 ∷ withdrawal 13 ∷ withdrawal 14 ∷ withdrawal 15 ∷ withdrawal 16 ∷ [];
     }
 
 -- by this rule it is in order, and the commit of its oldest event writes as much as any call can
 pub record LongestBy (R : rule.Rule State Event ℕ) : Type 0 where
   pub ordered : isInOrder R fullAccount ≡ true
   pub bytes : (account : ℕ)
-      → length (bytesOfEntries account (listOf (entriesOf (call.written (call.call R fullAccount (rule.commit 1 blankFiled) .answer))))) ≡ 315
+      → length (bytesOfEntries account (listOf (entriesOf (call.written (call.call R fullAccount (rule.commit 1 blankFiled) .answer))))) ≡ 323
 
 -- there is such a rule, with as many places as an account has
 pub record LongestThereIs : Type 0 where

@@ -13,12 +13,12 @@ use Rattle.entry.specs.Answers as Answers′
 use Rattle.entry.specs.Answers.{writeOf}
 use Rattle.entry.specs.Plain.{lengthsIn}
 
--- 4 exactly if the buffer has less than 315 bytes, or if the entries do not fit; of the entries of a call the latter never holds (Longest)
+-- 4 exactly if the buffer has less than 323 bytes, or if the entries do not fit; of the entries of a call the latter never holds (Longest)
 abbrev pub WriterRefuses : Type 0
 WriterRefuses =
     (entries : Entries) (account : ℕ) (buffer : List ℕ)
     → saidOfWriting (writeOf entries account buffer .answer) .refusal
-    ≡ firstOf (test (ltb (length buffer) 315) 4 ∷ test (ltb (length buffer) (lengthsIn (take (entries .count) (entries .at)))) 4 ∷ [])
+    ≡ firstOf (test (ltb (length buffer) 323) 4 ∷ test (ltb (length buffer) (lengthsIn (take (entries .count) (entries .at)))) 4 ∷ [])
 
 abbrev pub WriterStays : Type 0
 WriterStays = (entries : Entries) (account : ℕ) (buffer : List ℕ) → Stays buffer (writeOf entries account buffer)

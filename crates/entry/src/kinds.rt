@@ -3,7 +3,7 @@ ghost use mathlib.Core.Path.{_≡_};
 ghost use Rattle.layout.specs.Fields.{rowOfKind};
 ghost use Rattle.layout.specs.Shapes.{padded, shapeOf};
 ghost use Rattle.entry.specs.Bytes.{entryRows, voteKind, kindOf, numbersOf, verdictBy, toldBy};
-ghost use Rattle.entry.specs.Numbers.{thenIn, withEvent};
+ghost use Rattle.entry.specs.Numbers.{thenIn, withEvent, reasonOnly};
 use events::Event;
 use filing::Entry;
 use filing::Told;
@@ -11,7 +11,7 @@ use filing::Verdict;
 use filing::Weighing;
 use layout::Shape;
 
-// The table of kinds: the heading; then event kind and amount; then outcomes weighed, or balance.
+// The table of kinds: the heading; then event kind and amount; then outcomes weighed, or balance; then the reason of a rejection.
 pub(crate) fn shape_of(kind: u8) -> Shape
     ensures { λ r. ⌜ r ≡ shapeOf (rowOfKind entryRows kind) ⌝ }
 {
@@ -22,6 +22,7 @@ pub(crate) fn shape_of(kind: u8) -> Shape
         20 => NOTED,
         21 => APPLIED,
         22 => DROPPED,
+        23 => REJECTED,
         _ => Shape::NONE,
     }
 }
@@ -29,6 +30,11 @@ pub(crate) fn shape_of(kind: u8) -> Shape
 const VOTE: Shape = Shape {
     widths: [1, 4, 2, 4, 1, 4, 2, 0, 0, 0],
     whole: 18,
+};
+
+const REJECTED: Shape = Shape {
+    widths: [1, 4, 2, 4, 1, 4, 2, 1, 0, 0],
+    whole: 19,
 };
 
 const NOTED: Shape = Shape {
@@ -51,6 +57,7 @@ pub(crate) struct Then {
     pub(crate) event: u32,
     pub(crate) amount: u32,
     pub(crate) number: u32,
+    pub(crate) reason: u32,
 }
 
 // The row of numbers of an entry of that account.
@@ -64,6 +71,7 @@ pub(crate) fn numbers_of(entry: Entry, account: u16) -> [u32; layout::FIELDS]
     numbers[4] = then.event;
     numbers[5] = then.amount;
     numbers[6] = then.number;
+    numbers[7] = then.reason;
     numbers
 }
 
@@ -72,25 +80,41 @@ fn then_of(told: Told) -> Then
     ensures { λ r. ⌜ r ≡ thenIn told ⌝ }
 {
     match told {
-        Told::Voted(event, weighing) => with_event(event, weighing.weighed),
+        Told::Voted(event, weighing) => {
+            let verdict = weighing.verdict;
+            with_event(event, weighing.weighed, reason_only(verdict, weighing.reason))
+        }
         Told::Noted => Then {
             event: 0,
             amount: 0,
             number: 0,
+            reason: 0,
         },
-        Told::Applied(event, balance) => with_event(event, balance),
-        Told::Dropped(event) => with_event(event, 0),
+        Told::Applied(event, balance) => with_event(event, balance, 0),
+        Told::Dropped(event) => with_event(event, 0, 0),
     }
 }
 
-// An event's kind and amount, and the number that follows it.
-fn with_event(event: Event, number: u32) -> Then
-    ensures { λ r. ⌜ r ≡ withEvent event number ⌝ }
+// The reason of a rejection; 0 for any other vote.
+fn reason_only(verdict: Verdict, reason: u8) -> u32
+    ensures { λ r. ⌜ r ≡ reasonOnly verdict reason ⌝ }
+{
+    match verdict {
+        Verdict::Accepted => 0,
+        Verdict::Rejected => reason as u32,
+        Verdict::Held => 0,
+    }
+}
+
+// An event's kind and amount, and the numbers that follow it.
+fn with_event(event: Event, number: u32, reason: u32) -> Then
+    ensures { λ r. ⌜ r ≡ withEvent event number reason ⌝ }
 {
     Then {
         event: event.kind() as u32,
         amount: event.amount(),
         number,
+        reason,
     }
 }
 
@@ -115,14 +139,15 @@ fn vote_kind(verdict: Verdict) -> u8
 {
     match verdict {
         Verdict::Accepted => 17,
-        Verdict::Rejected => 18,
+        Verdict::Rejected => 23,
         Verdict::Held => 19,
     }
 }
 
-// What an entry of a kind 17 to 22 tells.
-pub(crate) fn told_of(kind: u8, event: Event, number: u32) -> Told
-    ensures { λ r. ⌜ r ≡ toldBy kind event number ⌝ }
+// What an entry of a kind 17 to 23 tells.
+pub(crate) fn told_of(kind: u8, event: Event, number: u32, reason: u32) -> Told
+    requires { ⌜ reason < 256 ⌝ }
+    ensures { λ r. ⌜ r ≡ toldBy kind event number reason ⌝ }
 {
     match kind {
         20 => Told::Noted,
@@ -133,18 +158,19 @@ pub(crate) fn told_of(kind: u8, event: Event, number: u32) -> Told
             Weighing {
                 verdict: verdict_of(kind),
                 weighed: number,
+                reason: reason as u8,
             },
         ),
     }
 }
 
-// The verdict of a vote of a kind 17 to 19.
+// The verdict of a vote of a kind 17 to 19 or 23.
 fn verdict_of(kind: u8) -> Verdict
     ensures { λ r. ⌜ r ≡ verdictBy kind ⌝ }
 {
     match kind {
         17 => Verdict::Accepted,
-        18 => Verdict::Rejected,
-        _ => Verdict::Held,
+        19 => Verdict::Held,
+        _ => Verdict::Rejected,
     }
 }

@@ -8,11 +8,11 @@ pub use reader::read_entry;
 pub use writer::write_entries;
 pub use writer::write_entry;
 
-// The room that a call needs: a commit noted, 8 events applied and 8 votes.
-pub const LONGEST_CALL: usize = 315;
+// The room that a call needs: a commit noted, 8 events applied and 8 rejections.
+pub const LONGEST_CALL: usize = 323;
 
-// What the reader answers: the entry, its account and its length, or that the bytes do not begin with an entry.
+// What the reader answers: the entry, the kind that it was read in, its account and its length, or that the bytes do not begin with an entry.
 pub enum EntryReading {
-    Found(Entry, u16, usize),
+    Found(Entry, u8, u16, usize),
     Nothing,
 }

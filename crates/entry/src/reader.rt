@@ -29,17 +29,18 @@ pub fn read_entry(bytes: &[u8]) -> EntryReading
     found_if(
         fits,
         entry_of(kind, numbers),
+        kind,
         numbers[2] as u16,
         shape.whole,
     )
 }
 
 // The entry is found if it fits.
-fn found_if(fits: bool, entry: Entry, account: u16, whole: usize) -> EntryReading
-    ensures { λ r. ⌜ r ≡ foundIf fits entry account whole ⌝ }
+fn found_if(fits: bool, entry: Entry, kind: u8, account: u16, whole: usize) -> EntryReading
+    ensures { λ r. ⌜ r ≡ foundIf fits entry kind account whole ⌝ }
 {
     if fits {
-        EntryReading::Found(entry, account, whole)
+        EntryReading::Found(entry, kind, account, whole)
     } else {
         EntryReading::Nothing
     }
@@ -59,7 +60,7 @@ fn entry_of(kind: u8, numbers: [u32; layout::FIELDS]) -> Entry
     Entry {
         transaction: numbers[1],
         filed: layout::filed_from(numbers),
-        told: kinds::told_of(kind, event_of(numbers[4], numbers[5]), numbers[6]),
+        told: kinds::told_of(kind, event_of(numbers[4], numbers[5]), numbers[6], numbers[7]),
     }
 }
 
