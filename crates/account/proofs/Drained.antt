@@ -160,7 +160,7 @@ module _ (R : rule.Rule State Event ℕ) (start : RuleAccount) (written : List R
             list = entries-with entries entry (d .written′) (voteOn here w) room (d .list) is;
             guards =
                 safe-guarded R (start .state) [] (events ++ (asEvent here ∷ []))
-                (safe-accept R (here .transaction) (here .filed) (here .event) rule.undecided events (start .state) safe (every-way R (guard R (here .event)) events (start .state) holds));
+                (safe-accept R (here .transaction) (here .filed) (here .event) rule.undecided events (start .state) safe (every-way R (rule.guard R (here .event)) events (start .state) holds));
             decisions = decisions-behind;
             same =
                 voted-same (events ++ (asEvent here ∷ []))

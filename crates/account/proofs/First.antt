@@ -6,6 +6,7 @@ use mathlib.Core.Logic.{_↔_}
 use mathlib.Core.Bool.{Bool, true}
 use mathlib.Core.List.{List}
 use mathlib.Core.Option.{Option}
+use native.Mathlib.Omega.{arith}
 use lib.Dec.{lit≤}
 use Rattle.rule.specs.Rule.{Message, newAccount}
 use Rattle.rule.specs.Call.{call, reached}
@@ -15,6 +16,7 @@ use Rattle.rule.proofs.InOrder.{reached-clauses, call-order}
 use Rattle.rule.proofs.Demand.{demand3}
 use Rattle.events.specs.declared.Event.{Event}
 use Rattle.events.specs.declared.State.{State}
+use Rattle.events.proofs.Against.{panel-guard, reason-small}
 use Rattle.events.proofs.Guards.{effect-table}
 use Rattle.events.proofs.Panel as events-panel
 use Rattle.events.proofs.Table as events-table
@@ -44,7 +46,7 @@ use Rattle.account.proofs.InOrderExactly as exactly
 
 -- a range answers for its guards, and its limits are the places
 pub first-ranged : Ranged panel
-first-ranged = record { tells = range-tells progressLimit heldLimit; few = lit≤ tt; fewHeld = lit≤ tt }
+first-ranged = record { tells = range-tells progressLimit heldLimit; few = lit≤ tt; fewHeld = lit≤ tt; reasoned = λ e s h. let some = reason-small e s 0 h .0 in omega (arith, some) }
 
 pub sound : Sound panel
 sound = events-panel.sound progressLimit heldLimit
@@ -66,7 +68,7 @@ pub table-holds : TableHolds
 table-holds s a = record { panel′ = refl; tablePanel′ = refl; rows = events-table.table-holds 8 8 s a }
 
 pub outcomes-of-the-table : OutcomesOfTheTable
-outcomes-of-the-table = table.outcomes-of-the-table panel tablePanel (λ e s g. sym (effect-table e s g))
+outcomes-of-the-table = table.outcomes-of-the-table panel tablePanel (λ e s g. sym (effect-table e s (rw (panel-guard progressLimit heldLimit e) at g)))
 
 -- the states in order in plain numbers, and in order exactly
 balance-fits : (s : State) → (panel .fits s ≡ true) ↔ BalanceFits s

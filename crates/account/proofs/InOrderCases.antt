@@ -4,11 +4,12 @@ use mathlib.Core.Path.{refl}
 use Rattle.rule.specs.Outcome.{outcomes}
 use Rattle.rule.specs.Weigh.{weigh, decide}
 use Rattle.rule.specs.InOrder.{isInOrder}
-use Rattle.events.specs.Events.{effectOf}
+use Rattle.rule.specs.Rule.{guard}
+use Rattle.events.specs.Events.{reasonOf, guardOf, effectOf}
 use Rattle.account.specs.Places.{listsOf}
 use Rattle.account.specs.InOrder.{inOrderBy}
 use Rattle.account.specs.InOrderCases.{table, InOrderCasesHold}
 
 pub order-cases : InOrderCasesHold
-unfolding outcomes weigh decide isInOrder effectOf listsOf inOrderBy table
+unfolding outcomes weigh decide isInOrder effectOf guard guardOf reasonOf listsOf inOrderBy table
 order-cases = refl

@@ -134,7 +134,7 @@ module _ (R : rule.Rule State Event ℕ) (Fits : State → Type 0) (fits : (s : 
       two-decisions : Undecided ≡ Committed → ⊥
       two-decisions h = let z : _≡_ {A = ℕ} 0 1 = cc in omega arith
 
-      split : (b : Bool) (xs : List Slot) (e : Event) → ((n : ℕ) → n < many xs → guard R e (after R (a .state) xs n) ≡ b)
+      split : (b : Bool) (xs : List Slot) (e : Event) → ((n : ℕ) → n < many xs → rule.guard R e (after R (a .state) xs n) ≡ b)
           → GuardSomewhere R (a .state) xs e true × GuardSomewhere R (a .state) xs e false → ⊥
       split true xs e f r = true≢false (sym (f (r .1 .0) (r .1 .1)) ∙ r .1 .2)
       split false xs e f r = true≢false (sym (r .0 .2) ∙ f (r .0 .0) (r .0 .1))

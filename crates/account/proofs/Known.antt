@@ -19,7 +19,7 @@ use Rattle.events.specs.declared.State.{State}
 use Rattle.events.specs.declared.Range.{Range}
 use Rattle.events.specs.Range.{rangeOf, rangeOfOne, everyIn, rangeAfter, rangePerhaps}
 use Rattle.events.proofs.States.{formed, range-one}
-use Rattle.events.proofs.Newest.{outcomes-past, outcomes-more, guarded-more}
+use Rattle.events.proofs.Newest.{outcomes-past, outcomes-more, first-past, first-more, guarded-more}
 use Rattle.events.proofs.Answers.{outcomes-every, outcomes-after, outcomes-perhaps}
 use Rattle.account.specs.declared.outcomes.Outcomes.{Outcomes}
 use Rattle.account.specs.Places.{used}
@@ -31,8 +31,8 @@ use Rattle.filing.specs.Slots.{RuleSlot, isUndecided, decisionOf}
 use Rattle.account.specs.inside.Known.{KnowsBy}
 use Rattle.account.proofs.Ranged.{Ranged}
 
-abbrev known : Range → ℕ → Bool → Outcomes
-known range number guarded = record { range = range; number = number; guarded = guarded }
+abbrev known : Range → ℕ → State → Bool → Outcomes
+known range number first guarded = record { range = range; number = number; first = first; guarded = guarded }
 
 -- a decision as the rule has it
 undecided-is : (d : Decision) → isUndecided d ≡ true → rule.undecided ≡ decisionOf d
@@ -50,9 +50,9 @@ undecided-few (rule.slot t g e rule.undecided ∷ xs) = omega (arith, undecided-
 undecided-few (rule.slot t g e rule.committed ∷ xs) = omega (arith, undecided-few xs)
 
 module _ (R : rule.Rule State Event ℕ) where
-  pub knows-none : (s : State) (x : Range) → x ≡ rangeOfOne s → KnowsBy R s [] (known x 1 true)
+  pub knows-none : (s : State) (x : Range) → x ≡ rangeOfOne s → KnowsBy R s [] (known x 1 s true)
   unfolding outcomes
-  knows-none s x h = record { number = refl; guards = refl; range = λ _. h ∙ sym (range-one s) }
+  knows-none s x h = record { number = refl; first = refl; guards = refl; range = λ _. h ∙ sym (range-one s) }
 
   -- one event more, the newest
   module _ (ranged : Ranged R) (s : State) (xs : List RuleSlot) (o : Outcomes) (k : KnowsBy R s xs o) (t : ℕ) (g : Filed) (e : Event) where
@@ -60,7 +60,7 @@ module _ (R : rule.Rule State Event ℕ) where
     guards-next : (d : rule.Decision) → (o .guarded && everyIn e (o .range)) ≡ guarded R s [] (xs ++ (rule.slot t g e d ∷ []))
     guards-next d = go (o .guarded) refl ∙ sym (guarded-more R s [] xs t g e d)
       where
-        go : (b : Bool) → o .guarded ≡ b → (b && everyIn e (o .range)) ≡ (guarded R s [] xs && every (guard R e) (outcomes R xs s))
+        go : (b : Bool) → o .guarded ≡ b → (b && everyIn e (o .range)) ≡ (guarded R s [] xs && every (rule.guard R e) (outcomes R xs s))
         go true h = rw (sym (k .guards) ∙ h, k .range h) (outcomes-every R (ranged .tells) s xs e)
         go false h = rw (sym (k .guards) ∙ h)
 
@@ -71,17 +71,18 @@ module _ (R : rule.Rule State Event ℕ) where
       pub ordered : o .range .lowest ≤ o .range .highest
       ordered = rw known-range (formed (outcomes R xs s) .ordered)
 
-      holds-all : every (guard R e) (outcomes R xs s) ≡ true
+      holds-all : every (rule.guard R e) (outcomes R xs s) ≡ true
       holds-all = sym (outcomes-every R (ranged .tells) s xs e) ∙ ap (everyIn e) (sym known-range) ∙ and-right (o .guarded) (everyIn e (o .range)) h
 
-    module _ (d : Decision) (x : Range) (all : Bool) (tells : all ≡ everyIn e (o .range)) where
+    module _ (d : Decision) (x : Range) (first : State) (all : Bool) (tells : all ≡ everyIn e (o .range)) where
       -- decided: in every outcome it is applied,
-      pub knows-after : isUndecided d ≡ false → (o .range .lowest ≤ o .range .highest → everyIn e (o .range) ≡ true → x ≡ rangeAfter e (o .range))
-          → KnowsBy R s (xs ++ (rule.slot t g e (decisionOf d) ∷ [])) (known x (o .number) (o .guarded && all))
-      knows-after u f =
+      pub knows-after : isUndecided d ≡ false → first ≡ R .effect e (o .first) → (o .range .lowest ≤ o .range .highest → everyIn e (o .range) ≡ true → x ≡ rangeAfter e (o .range))
+          → KnowsBy R s (xs ++ (rule.slot t g e (decisionOf d) ∷ [])) (known x (o .number) first (o .guarded && all))
+      knows-after u q f =
           rw (← committed-is d u, tells)
           (record {
             number = k .number ∙ sym (ap length (outcomes-past R t g e xs s) ∙ length-map (outcomes R xs s) (R .effect e));
+            first = q ∙ ap (R .effect e) (k .first) ∙ sym (first-past R t g e xs s);
             guards = guards-next rule.committed;
             range = λ h.
                 f (ordered h) (and-right (o .guarded) (everyIn e (o .range)) h) ∙ ap (rangeAfter e) (known-range h)
@@ -89,14 +90,15 @@ module _ (R : rule.Rule State Event ℕ) where
           })
 
       -- undecided: in one half of them
-      pub knows-perhaps : isUndecided d ≡ true → (o .range .lowest ≤ o .range .highest → everyIn e (o .range) ≡ true → x ≡ rangePerhaps e (o .range))
-          → KnowsBy R s (xs ++ (rule.slot t g e (decisionOf d) ∷ [])) (known x (o .number + o .number) (o .guarded && all))
-      knows-perhaps u f =
+      pub knows-perhaps : isUndecided d ≡ true → first ≡ o .first → (o .range .lowest ≤ o .range .highest → everyIn e (o .range) ≡ true → x ≡ rangePerhaps e (o .range))
+          → KnowsBy R s (xs ++ (rule.slot t g e (decisionOf d) ∷ [])) (known x (o .number + o .number) first (o .guarded && all))
+      knows-perhaps u q f =
           let again = map (R .effect e) (outcomes R xs s) in
           let two : o .number + o .number ≡ length (outcomes R xs s) + length again = omega (arith, k .number, length-map (outcomes R xs s) (R .effect e)) in
           rw (← undecided-is d u, tells)
           (record {
             number = two ∙ sym (ap length (outcomes-more R t g e xs s) ∙ length-append (outcomes R xs s) again);
+            first = q ∙ k .first ∙ sym (first-more R t g e xs s);
             guards = guards-next rule.undecided;
             range = λ h.
                 f (ordered h) (and-right (o .guarded) (everyIn e (o .range)) h) ∙ ap (rangePerhaps e) (known-range h)

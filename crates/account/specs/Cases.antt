@@ -3,6 +3,7 @@
 use Prim.Native.Nat.{ℕ, suc, _-_, _^_}
 use mathlib.Core.Path.{_≡_}
 use mathlib.Core.List.{List, [], _∷_, _++_, map}
+use mathlib.Core.Option.{Option, none, some}
 use lib.ListN.{replicate}
 use Rattle.rule.specs.Lists.{numbers}
 use Rattle.rule.specs.Rule.{Rule, undecided, slot, Message, request, commit, abort, Verdict, accept, reject, hold, Weighing, Entry, voted, noted, applied, dropped, newAccount}
@@ -29,11 +30,15 @@ pub data Finding : Type 0 where
   writes : List (Entry Filed Event ℕ) → Finding
   refuses : ℕ → Finding
 
-abbrev pub weighing : Verdict → ℕ → Weighing
-weighing verdict weighed = record { verdict = verdict; weighed = weighed }
+abbrev pub weighing : Verdict → ℕ → Option ℕ → Weighing
+weighing verdict weighed reason = record { verdict = verdict; weighed = weighed; reason = reason }
 
+-- a vote of yes or to hold, which has no reason, and a vote of no with its reason
 abbrev pub vote : Verdict → ℕ → Finding
-vote verdict weighed = votes (weighing verdict weighed)
+vote verdict weighed = votes (weighing verdict weighed none)
+
+abbrev pub rejects : (weighed reason : ℕ) → Finding
+rejects weighed reason = votes (weighing reject weighed (some reason))
 
 -- a row: the messages sent to a new account before, the question, and what is to be found
 pub record Row : Type 0 where
@@ -122,21 +127,21 @@ closed = case8 ++ (commit 2 filed ∷ [])
 unfoldable pub table : List Row
 table =
     -- 14.1, new
-    row [] (asks (Deposit 5)) (vote reject 1)
+    row [] (asks (Deposit 5)) (rejects 1 1)
     ∷ row [] (asks (Open 0)) (vote accept 1)
     ∷ row [] (asks (Open 1_000_000)) (vote accept 1)
-    ∷ row [] (asks (Open 1_000_001)) (vote reject 1)
+    ∷ row [] (asks (Open 1_000_001)) (rejects 1 4)
     -- 14.2, balance 100
     ∷ row (opened 100) (asks (Withdraw 100)) (vote accept 1)
-    ∷ row (opened 100) (asks (Withdraw 101)) (vote reject 1)
-    ∷ row (opened 100) (asks (Withdraw 0)) (vote reject 1)
+    ∷ row (opened 100) (asks (Withdraw 101)) (rejects 1 3)
+    ∷ row (opened 100) (asks (Withdraw 0)) (rejects 1 2)
     -- 14.3, there with Withdraw 60 undecided
     ∷ row case3 (asks (Withdraw 40)) (vote accept 2)
     ∷ row case3 (asks (Withdraw 41)) (vote hold 2)
-    ∷ row case3 (asks (Withdraw 101)) (vote reject 2)
+    ∷ row case3 (asks (Withdraw 101)) (rejects 2 3)
     -- 14.4, balance 999,990, without and with Withdraw 1 undecided
     ∷ row (opened 999_990) (asks (Deposit 10)) (vote accept 1)
-    ∷ row (opened 999_990) (asks (Deposit 11)) (vote reject 1)
+    ∷ row (opened 999_990) (asks (Deposit 11)) (rejects 1 4)
     ∷ row (opened 999_990 ++ (request 2 filed (Withdraw 1) ∷ [])) (asks (Deposit 11)) (vote hold 2)
     -- 14.5, balance 100 with Withdraw 60 and Withdraw 40 undecided
     ∷ row case5 outlook (outcomesAre (100 ∷ 40 ∷ 60 ∷ 0 ∷ []) (0 ∷ 1 ∷ 1 ∷ 2 ∷ []))
@@ -150,9 +155,9 @@ table =
     -- 14.7, new with Open 10 undecided
     ∷ row case7 (asks (Open 1)) (vote hold 2)
     ∷ row case7 (asks (Withdraw 5)) (vote hold 2)
-    ∷ row case7 (asks (Withdraw 11)) (vote reject 2)
+    ∷ row case7 (asks (Withdraw 11)) (rejects 2 1)
     -- 14.8, balance 100 with Close undecided
-    ∷ row case8 (asks (Withdraw 101)) (vote reject 2)
+    ∷ row case8 (asks (Withdraw 101)) (rejects 2 3)
     ∷ row case8 (asks (Deposit 1)) (vote hold 2)
     -- 14.9, balance 100 with seven Withdraw 1 undecided
     ∷ row case9 (asks (Deposit 1)) (vote accept 128)
@@ -163,24 +168,38 @@ table =
     ∷ row lookAlike outlook (outcomesAre (100 ∷ 150 ∷ 50 ∷ 100 ∷ []) (0 ∷ 1 ∷ 1 ∷ 2 ∷ []))
     ∷ row lookAlike (asks (Withdraw 80)) (vote hold 4)
     -- the other events of the table on a new account and on an opened one
-    ∷ row [] (asks (Withdraw 1)) (vote reject 1)
-    ∷ row [] (asks Close) (vote reject 1)
-    ∷ row (opened 100) (asks (Open 1)) (vote reject 1)
-    ∷ row (opened 100) (asks (Deposit 0)) (vote reject 1)
+    ∷ row [] (asks (Withdraw 1)) (rejects 1 1)
+    ∷ row [] (asks Close) (rejects 1 1)
+    ∷ row (opened 100) (asks (Open 1)) (rejects 1 1)
+    ∷ row (opened 100) (asks (Deposit 0)) (rejects 1 2)
     ∷ row (opened 100) (asks (Deposit 1)) (vote accept 1)
     ∷ row (opened 100) (asks Close) (vote accept 1)
     ∷ row (openedWith 100 (Deposit 50 ∷ [])) (sends (commit 2 filed)) (writes (noted 2 filed ∷ applied 2 filed (Deposit 50) 150 ∷ []))
     ∷ row case8 (sends (commit 2 filed)) (writes (noted 2 filed ∷ applied 2 filed Close 0 ∷ []))
+    -- the first reason that applies: the wrong life ahead of the amount and of the limit, an amount of zero ahead of what else there is; a withdrawal is never over the limit
+    ∷ row [] (asks (Withdraw 0)) (rejects 1 1)
+    ∷ row [] (asks (Deposit 0)) (rejects 1 1)
+    ∷ row (opened 100) (asks (Open 1_000_001)) (rejects 1 1)
+    ∷ row (opened 0) (asks (Withdraw 0)) (rejects 1 2)
+    ∷ row (opened 1_000_000) (asks (Deposit 0)) (rejects 1 2)
+    ∷ row (opened 100) (asks (Withdraw 1_000_001)) (rejects 1 3)
+    ∷ row (opened 100) (asks (Deposit 4_294_967_295)) (rejects 1 4)
+    -- where outcomes have different reasons, that of outcome 0: an undecided close is not applied there, a committed withdrawal is
+    ∷ row case8 (asks (Open 1)) (rejects 2 1)
+    ∷ row case8 (asks (Deposit 1_000_000)) (rejects 2 4)
+    ∷ row case6 (asks (Withdraw 61)) (rejects 2 3)
+    -- a request that was held is rejected for the reason that there is on its turn: the close before it is committed
+    ∷ row (openedWith 100 (Close ∷ Deposit 1 ∷ [])) (sends (commit 2 filed)) (writes (noted 2 filed ∷ applied 2 filed Close 0 ∷ voted 3 filed (Deposit 1) (weighing reject 1 (some 1)) ∷ []))
     -- every event on a closed account
     ∷ row closed outlook (outcomesAre (0 ∷ []) (0 ∷ []))
-    ∷ row closed (asks (Open 1)) (vote reject 1)
-    ∷ row closed (asks (Withdraw 1)) (vote reject 1)
-    ∷ row closed (asks (Deposit 1)) (vote reject 1)
-    ∷ row closed (asks Close) (vote reject 1)
+    ∷ row closed (asks (Open 1)) (rejects 1 1)
+    ∷ row closed (asks (Withdraw 1)) (rejects 1 1)
+    ∷ row closed (asks (Deposit 1)) (rejects 1 1)
+    ∷ row closed (asks Close) (rejects 1 1)
     -- a request behind one that is held; what becomes of the held one
     ∷ row waiting (asks (Deposit 1)) (vote hold 0)
-    ∷ row waiting (sends (abort 2 filed)) (writes (dropped 2 filed (Withdraw 60) ∷ voted 3 filed (Withdraw 60) (weighing accept 1) ∷ []))
-    ∷ row waiting (sends (commit 2 filed)) (writes (noted 2 filed ∷ applied 2 filed (Withdraw 60) 40 ∷ voted 3 filed (Withdraw 60) (weighing reject 1) ∷ []))
+    ∷ row waiting (sends (abort 2 filed)) (writes (dropped 2 filed (Withdraw 60) ∷ voted 3 filed (Withdraw 60) (weighing accept 1 none) ∷ []))
+    ∷ row waiting (sends (commit 2 filed)) (writes (noted 2 filed ∷ applied 2 filed (Withdraw 60) 40 ∷ voted 3 filed (Withdraw 60) (weighing reject 1 (some 3)) ∷ []))
     ∷ row waiting (sends (abort 3 filed)) (writes (dropped 3 filed (Withdraw 60) ∷ []))
     -- refusals 6 and 8 to 11
     ∷ row waiting (sends (request 2 filed Close)) (refuses 6)

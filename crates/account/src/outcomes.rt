@@ -12,17 +12,22 @@ ghost use mathlib.Core.List.{List, [], _∷_, _++_};
 ghost use lib.ListN.{length};
 ghost use Prim.Native.Nat.{ℕ, _≤_};
 ghost use Rattle.rule.specs.Rule.{slot};
+ghost use Rattle.rule.specs.Weigh.{reasonBy};
 ghost use Rattle.events.specs.declared.State.{State};
+ghost use Rattle.events.specs.Events.{reasonOf, reasonByte};
 ghost use Rattle.filing.specs.declared.Filed.{Filed};
 ghost use Rattle.filing.specs.Slots.{RuleSlot, places, decisionOf};
+ghost use Rattle.filing.specs.Entries.{verdictOf};
 ghost use Rattle.account.specs.Places.{used};
 ghost use Rattle.account.specs.inside.Known.{verdictBy};
 ghost use Rattle.account.specs.inside.First.{Knows, Decides, StaysHeld};
 
-// The outcomes of the events in progress: their range and their number, and whether each event finds its guard true however the older ones end; where one does not, the range says nothing.
+// The outcomes of the events in progress: their range and their number, the state in outcome 0, which a rejection's reason is of, and whether each event finds its guard true however the
+// older ones end; where one does not, the range says nothing.
 pub(crate) struct Outcomes {
     pub(crate) range: Range,
     pub(crate) number: u32,
+    pub(crate) first: State,
     pub(crate) guarded: bool,
 }
 
@@ -34,6 +39,7 @@ impl Outcomes {
         Outcomes {
             range: Range::of(s),
             number: 1,
+            first: s,
             guarded: true,
         }
     }
@@ -44,17 +50,20 @@ impl Outcomes {
         ensures { λ r. ⌜ ((s : State) (xs : List RuleSlot) (t : ℕ) (g : Filed) → Knows s xs self → Knows s (xs ++ (slot t g event (decisionOf decision) ∷ [])) r) ⌝ }
     {
         let range = self.range;
+        let first = self.first;
         if decision.is_undecided() {
             Outcomes {
                 guarded: self.guarded & range.every(event),
                 range: range.perhaps(event),
                 number: self.number + self.number,
+                first,
             }
         } else {
             Outcomes {
                 guarded: self.guarded & range.every(event),
                 range: range.after(event),
                 number: self.number,
+                first: event.effect(first),
             }
         }
     }
@@ -71,6 +80,18 @@ impl Outcomes {
         Weighing {
             verdict,
             weighed: self.number,
+            reason: self.reason(verdict, event),
+        }
+    }
+
+    // The reason of a rejection, the one in outcome 0 (4.7); 0 for any other verdict.
+    fn reason(self, verdict: Verdict, event: Event) -> u8
+        ensures { λ r. ⌜ r ≡ reasonByte (reasonBy (verdictOf verdict) (reasonOf event (self .first))) ⌝ }
+    {
+        match verdict {
+            Verdict::Accepted => 0,
+            Verdict::Rejected => event.reason(self.first),
+            Verdict::Held => 0,
         }
     }
 

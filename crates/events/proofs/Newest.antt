@@ -71,7 +71,14 @@ module _ {G S E B : Type 0} (R : Rule S E B) where
     left-many (slot t′ g′ e′ undecided ∷ xs) = ap suc (left-many xs)
     left-many (slot t′ g′ e′ committed ∷ xs) = left-many xs
 
-    -- so the lists
+    -- so outcome 0: a committed event is applied to it, an undecided one leaves it;
+    pub first-past : (xs : List (Slot G E)) (s : S) → outcome R (xs ++ (slot t g e committed ∷ [])) 0 s ≡ R .effect e (outcome R xs 0 s)
+    first-past xs s = past xs 0 s
+
+    pub first-more : (xs : List (Slot G E)) (s : S) → outcome R (xs ++ (slot t g e undecided ∷ [])) 0 s ≡ outcome R xs 0 s
+    first-more xs s = left xs 0 s (pow-pos (undecidedOf xs))
+
+    -- and so the lists
     pub outcomes-past : (xs : List (Slot G E)) (s : S) → outcomes R (xs ++ (slot t g e committed ∷ [])) s ≡ map (R .effect e) (outcomes R xs s)
     unfolding outcomes
     outcomes-past xs s =

@@ -57,7 +57,7 @@ reason-back : (n : ℕ) → reasonByte (reasonFrom n) ≡ n
 reason-back zero = refl
 reason-back (suc n) = rw (ne-eqb (suc n) 0 (λ h. omega arith)) refl
 
-reason-forth : (o : Option ℕ) → (o ≡ some 0 → ⊥) → reasonFrom (reasonByte o) ≡ o
+pub reason-forth : (o : Option ℕ) → (o ≡ some 0 → ⊥) → reasonFrom (reasonByte o) ≡ o
 reason-forth none h = refl
 reason-forth (some zero) h = absurd (h refl)
 reason-forth (some (suc n)) h = rw (ne-eqb (suc n) 0 (λ k. omega arith)) refl

@@ -6,7 +6,7 @@ use mathlib.Core.Bool.{Bool, true, cond}
 use mathlib.Core.List.{List, []}
 use lib.ListN.{length}
 use Rattle.rule.specs.Rule.{Rule}
-use Rattle.rule.specs.Outcome.{outcomes}
+use Rattle.rule.specs.Outcome.{outcome, outcomes}
 use Rattle.rule.specs.Weigh.{decide, decideBehind}
 use Rattle.rule.specs.InOrder.{guarded, staysHeld}
 use Rattle.events.specs.declared.Event.{Event}
@@ -20,9 +20,10 @@ use Rattle.filing.specs.Entries.{isAccepted, weighingOf}
 use Rattle.account.specs.declared.outcomes.Outcomes.{Outcomes}
 
 module _ (R : Rule State Event ℕ) where
-  -- how many outcomes there are, whether each event finds its guard true however the older ones end, and then the range of all outcomes
+  -- how many outcomes there are, the state in outcome 0, whether each event finds its guard true however the older ones end, and then the range of all outcomes
   pub record KnowsBy (s : State) (xs : List RuleSlot) (r : Outcomes) : Type 0 where
     pub number : r .number ≡ length (outcomes R xs s)
+    pub first : r .first ≡ outcome R xs 0 s
     pub guards : r .guarded ≡ guarded R s [] xs
     pub range : r .guarded ≡ true → r .range ≡ rangeOf (outcomes R xs s)
 

@@ -1,6 +1,8 @@
 -- With no free place the request is held, else what is known of the outcomes decides.
 -- Assumes nothing.
+use mathlib.Core.Path.{_∙_, ap₂}
 use native.Mathlib.Omega.{arith}
+use Rattle.account.specs.inside.Known.{verdictBy}
 use borrow.Author.Needs.{needs}
 use Rattle.account.proofs.First.{first-ranged}
 use Rattle.account.proofs.Decided.{decided-full, decided-known}
@@ -21,12 +23,17 @@ some-requires c κs = search needs
 verdict-of-requires : tie.Need-verdict-of-requires
 verdict-of-requires c κs = search needs
 
+reason-requires : tie.Need-reason-requires
+reason-requires c κs = search needs
+
 returns-2 : tie.Need-returns-2
 returns-2 c =
-    let tested = c .before in
+    let judged = c .before in
+    let tested = judged .before in
     let a = tested .before .before .before .before .args in
-    rw (c .verdict-of .ensures, tested .before .every .ensures, tested .some .ensures) (decided-known _ (a .event) (a .progressing) (a .self) first-ranged (omega arith))
+    decided-known _ (a .event) (a .progressing) (a .self) first-ranged (omega arith) (judged .verdict-of .result) (c .reason .result)
+    (judged .verdict-of .ensures ∙ ap₂ verdictBy (tested .before .every .ensures) (tested .some .ensures)) (c .reason .ensures)
 
 pub decide-spec : {M : Type 1} → statement M
 decide-spec =
-    tie.close (tie.spec returns every-requires some-requires verdict-of-requires returns-2)
+    tie.close (tie.spec returns every-requires some-requires verdict-of-requires reason-requires returns-2)
