@@ -18,13 +18,13 @@ line-none : (bytes buffer : List ℕ) → readOf bytes ≡ Nothing → lineOfEnt
 unfolding lineOfEntry
 line-none bytes buffer e = rw e refl
 
-line-short : (bytes buffer : List ℕ) → length buffer < 68 → lineOfEntry bytes buffer ≡ noLine buffer
+line-short : (bytes buffer : List ℕ) → length buffer < 72 → lineOfEntry bytes buffer ≡ noLine buffer
 unfolding lineOfEntry writeLineOf
 line-short bytes buffer h = go (readOf bytes)
   where
     go : (x : EntryReading) → lineFound buffer x ≡ noLine buffer
     go Nothing = refl
-    go (Found e account whole) = rw (lt-ltb (length buffer) 68 h) refl
+    go (Found e account whole) = rw (lt-ltb (length buffer) 72 h) refl
 
 line-holds : LineHolds
 unfolding lineOfEntry writeLineOf
@@ -32,7 +32,7 @@ line-holds =
     record {
       line =
           λ account e rest buffer w h.
-          rw (reads-written account e rest w, le-ltb (length buffer) 68 h, length-entry account e) refl;
+          rw (reads-written account e rest w, le-ltb (length buffer) 72 h, length-entry account e) refl;
       none = line-none;
       short = line-short;
     }

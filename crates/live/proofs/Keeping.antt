@@ -99,7 +99,7 @@ module _ (R : rule.Rule State Event ℕ) (k : Suits R) where
           (rw zero-add at (stored-at accountsOfRegister image 0 i next next-kept low (rw zero-add room)))
 
     -- an image too short for the account that is named: that account is not in order
-    module _ (m : Message) (consumed : ℕ) (e : readOf bytes ≡ Reading′.Message m consumed) (l : 315 ≤ length buffer) (low : length image < accountIn bytes * 84 + 84) where
+    module _ (m : Message) (consumed : ℕ) (e : readOf bytes ≡ Reading′.Message m consumed) (l : 323 ≤ length buffer) (low : length image < accountIn bytes * 84 + 84) where
       abbrev named : Account
       named = accountFrom image (wordAt (headingOf m .account))
 

@@ -47,7 +47,7 @@ registers-plain =
     }
 
 module _ (R : Rule State Event ℕ) (image bytes buffer : List ℕ) where
-  call-refused : (m : Message) (consumed n : ℕ) → readOf bytes ≡ Reading′.Message m consumed → 315 ≤ length buffer
+  call-refused : (m : Message) (consumed n : ℕ) → readOf bytes ≡ Reading′.Message m consumed → 323 ≤ length buffer
       → stepBy R (accountFrom image (wordAt (headingOf m .account))) (ruleMessage m) .answer ≡ Answer′.Refused n
       → liveBy R image bytes buffer ≡ record { reply = Refused n; image = image; buffer = buffer }
   call-refused m consumed n read room answer =

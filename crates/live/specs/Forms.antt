@@ -35,17 +35,17 @@ pub record LineForm (buffer : List ℕ) (a b c n m : ℕ) : Type 0 where
   pub stored : exportedLine (record { lined = record { entry = n; line = m }; buffer = buffer }) (a ∷ b ∷ c ∷ []) ≡ record { answer = m; line = buffer; counts = n ∷ m ∷ c ∷ [] }
   pub one : exportedLine (record { lined = record { entry = n; line = m }; buffer = buffer }) (a ∷ []) .counts ≡ n ∷ []
 
--- an entry's own bytes, whatever stands behind them, give its line at the beginning of a buffer that has 68 bytes or more, which is as it was behind it;
+-- an entry's own bytes, whatever stands behind them, give its line at the beginning of a buffer that has 72 bytes or more, which is as it was behind it;
 -- bytes that begin with no entry, and a shorter buffer, give none and change nothing
 pub record LineHolds : Type 0 where
-  pub line : (account : ℕ) (e : Entry) (rest buffer : List ℕ) → Writable account e → 68 ≤ length buffer
+  pub line : (account : ℕ) (e : Entry) (rest buffer : List ℕ) → Writable account e → 72 ≤ length buffer
       → lineOfEntry (bytesOfEntry account e ++ rest) buffer
       ≡ record {
         lined = record { entry = length (bytesOfEntry account e); line = length (lineOf account e) };
         buffer = lineOf account e ++ drop (length (lineOf account e)) buffer;
       }
   pub none : (bytes buffer : List ℕ) → readOf bytes ≡ Nothing → lineOfEntry bytes buffer ≡ record { lined = record { entry = 0; line = 0 }; buffer = buffer }
-  pub short : (bytes buffer : List ℕ) → length buffer < 68 → lineOfEntry bytes buffer ≡ record { lined = record { entry = 0; line = 0 }; buffer = buffer }
+  pub short : (bytes buffer : List ℕ) → length buffer < 72 → lineOfEntry bytes buffer ≡ record { lined = record { entry = 0; line = 0 }; buffer = buffer }
 
 pub record FormsHold : Type 0 where
   pub call : (image buffer : List ℕ) (a b c n m : ℕ) → CallForm image buffer a b c n m

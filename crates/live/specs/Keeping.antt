@@ -36,7 +36,7 @@ module _ (R : Rule State Event ℕ) where
     pub before : take (accountIn bytes * 84) (liveBy R image bytes buffer .image) ≡ take (accountIn bytes * 84) image
     pub behind : drop (accountIn bytes * 84 + 84) (liveBy R image bytes buffer .image) ≡ drop (accountIn bytes * 84 + 84) image
     -- an image too short for that account gets 5, behind 1 to 4
-    pub short : (m : Message) (consumed : ℕ) → readOf bytes ≡ Reading′.Message m consumed → 315 ≤ length buffer → length image < accountIn bytes * 84 + 84
+    pub short : (m : Message) (consumed : ℕ) → readOf bytes ≡ Reading′.Message m consumed → 323 ≤ length buffer → length image < accountIn bytes * 84 + 84
         → liveBy R image bytes buffer .reply ≡ Refused 5
 
   -- two images with the same words of the account that is named get one reply and one buffer, and have the same words of it afterwards

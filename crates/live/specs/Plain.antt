@@ -49,12 +49,12 @@ module _ (R : Rule State Event ℕ) where
   -- a call: the reader's refusal; 4; what the account answers that is read at its words
   pub record CallPlain (image bytes buffer : List ℕ) : Type 0 where
     pub unread : (n : ℕ) → readOf bytes ≡ Reading′.Refused n → liveBy R image bytes buffer ≡ record { reply = Refused n; image = image; buffer = buffer }
-    pub roomless : (m : Message) (consumed : ℕ) → readOf bytes ≡ Reading′.Message m consumed → length buffer < 315
+    pub roomless : (m : Message) (consumed : ℕ) → readOf bytes ≡ Reading′.Message m consumed → length buffer < 323
         → liveBy R image bytes buffer ≡ record { reply = Refused 4; image = image; buffer = buffer }
-    pub refused : (m : Message) (consumed n : ℕ) → readOf bytes ≡ Reading′.Message m consumed → 315 ≤ length buffer
+    pub refused : (m : Message) (consumed n : ℕ) → readOf bytes ≡ Reading′.Message m consumed → 323 ≤ length buffer
         → stepBy R (accountFrom image (headingOf m .account * 84)) (ruleMessage m) .answer ≡ Answer′.Refused n
         → liveBy R image bytes buffer ≡ record { reply = Refused n; image = image; buffer = buffer }
-    pub taken : (m : Message) (consumed : ℕ) → readOf bytes ≡ Reading′.Message m consumed → 315 ≤ length buffer
+    pub taken : (m : Message) (consumed : ℕ) → readOf bytes ≡ Reading′.Message m consumed → 323 ≤ length buffer
         → let stepped = stepBy R (accountFrom image (headingOf m .account * 84)) (ruleMessage m) in
         let entries = bytesOfEntries (headingOf m .account) (take (stepped .entries .count) (stepped .entries .at)) in
         stepped .answer ≡ Answer′.Taken

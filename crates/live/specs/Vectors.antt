@@ -23,7 +23,7 @@ abbrev pub beginning : List ℕ → List ℕ
 beginning words = replicate 168 0 ++ words ++ replicate 1_163 0
 
 abbrev pub called : (image message : List ℕ) → ExportedCall
-called image message = exportedCallOf image message (replicate 315 165) (8 ∷ 9 ∷ 10 ∷ [])
+called image message = exportedCallOf image message (replicate 323 165) (8 ∷ 9 ∷ 10 ∷ [])
 
 -- life, balance, in progress, held; then the first place: transaction, second, event, amount, decision; then the transaction of the second place, and three words more
 abbrev pub opened : List ℕ
@@ -46,7 +46,7 @@ pub record VectorsHold : Type 0 where
   pub commitCounts : called opened commit .counts ≡ 11 ∷ 31 ∷ 10 ∷ []
   pub withdraw : called committed withdrawal .image ≡ withdrawn
   -- once more: refused with 6, and no word changes
-  pub again : called withdrawn withdrawal ≡ record { answer = 6; image = withdrawn; entries = replicate 315 165; counts = 0 ∷ 0 ∷ 10 ∷ [] }
+  pub again : called withdrawn withdrawal ≡ record { answer = 6; image = withdrawn; entries = replicate 323 165; counts = 0 ∷ 0 ∷ 10 ∷ [] }
   -- an image that ends before the account's last word: 5
   pub short : called (take 251 withdrawn) withdrawal .answer ≡ 5
   -- the outcomes: opened, 253 steps and one applied; there is no third

@@ -20,7 +20,7 @@ pub fn write_entry_line(bytes: &[u8], buffer: &mut [u8]) -> Lined
     ensures { λ r. ⌜ (r ≡ lineOfEntry (now (bytes .entry)) (now (buffer .entry)) .lined) × (now (buffer .exit) ≡ lineOfEntry (now (bytes .entry)) (now (buffer .entry)) .buffer) ⌝ }
 {
     let reading = entry::read_entry(bytes);
-    let EntryReading::Found(found, account, whole) = reading else {
+    let EntryReading::Found(found, _, account, whole) = reading else {
         return Lined::NONE;
     };
     let writing = text::write_line(found, account, buffer);

@@ -36,14 +36,14 @@ answer-ruled r buffer i consumed a next (rule-call.taken xs) =
     rw (listed xs) (record { refusal′ = refl; consumed′ = refl; written′ = refl; register′ = refl; buffer′ = refl })
 
 module _ (R : Rule State Event ℕ) where
-  pub as-the-rule : (r : Register) (bytes buffer : List ℕ) (m : Message) (consumed : ℕ) → readOf bytes ≡ Reading′.Message m consumed → 315 ≤ length buffer
+  pub as-the-rule : (r : Register) (bytes buffer : List ℕ) (m : Message) (consumed : ℕ) → readOf bytes ≡ Reading′.Message m consumed → 323 ≤ length buffer
       → inOrderBy R (accountAt r (accountIn bytes)) ≡ true
       → Ruled r buffer (accountIn bytes) consumed (rule-call.call R (listsOf (accountAt r (accountIn bytes))) (ruleMessage m)) (calledBy R r bytes buffer)
   unfolding calledBy afterMessage sentBy stepBy
   as-the-rule r bytes buffer m consumed read room order =
       let i = accountIn bytes in
       let called = rule-call.call R (listsOf (accountAt r i)) (ruleMessage m) in
-      rw (read, account-read bytes m consumed read, le-ltb (length buffer) 315 room, le-ltb 15 i (read-as bytes m consumed read .account), order)
+      rw (read, account-read bytes m consumed read, le-ltb (length buffer) 323 room, le-ltb 15 i (read-as bytes m consumed read .account), order)
       (answer-ruled r buffer i consumed (accountAt r i) (called .account) (called .answer))
 
   pub sent-as-the-rule : (r : Register) (m : Message) → headingOf m .account ≤ 15 → inOrderBy R (accountAt r (headingOf m .account)) ≡ true

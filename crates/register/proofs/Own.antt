@@ -3,11 +3,11 @@
 -- Assumes nothing.
 use Prim.Native.Nat.{ℕ, _≤_}
 use mathlib.Core.Path.{_≡_, refl, sym, _∙_, ap}
+use mathlib.Core.Logic.{_⊎_, inl, inr}
 use mathlib.Core.List.{List, [], _∷_, _++_, map}
 use mathlib.Core.Option.{none}
 use native.Mathlib.Omega.{arith}
-use lib.Dec.{lit≤}
-use lib.ListN.{length, take, drop, take-append-drop}
+use lib.ListN.{length, getD, take, drop, take-append-drop}
 use Rattle.rule.specs.Rule as rule
 use Rattle.rule.specs.Written.{Shape}
 use Rattle.rule.proofs.InOrder.{order-clauses}
@@ -32,7 +32,7 @@ use Rattle.message.specs.declared.Message.{Message}
 use Rattle.message.specs.declared.Message.the-variants.{Request, Commit, Abort}
 use Rattle.message.specs.Bytes.{messages, headingOf, bytesOfMessage}
 use Rattle.message.proofs.Inverse.{writes-read}
-use Rattle.entry.specs.Bytes.{entryRows, voteKind, bytesOfEntry, bytesOfEntries}
+use Rattle.entry.specs.Bytes.{entryRows, voteKind, reasonNumbers, bytesAs, bytesOfEntry, bytesOfEntries}
 use Rattle.register.specs.declared.Register.{Register}
 use Rattle.register.specs.Register.{accountAt, ruleMessage}
 use Rattle.register.specs.Call.{Result, refusalOf, writtenOf}
@@ -40,36 +40,37 @@ use Rattle.register.specs.Own.{OwnEntry, EachOwnEntry}
 use Rattle.register.proofs.Sending.{lists, taking}
 use Rattle.register.proofs.Calling.{Calling, refused, taken, calling}
 
--- a vote's kind
-lowest : (v : Verdict) → 17 ≤ voteKind v
-lowest Accepted = lit≤ tt
-lowest Rejected = lit≤ tt
-lowest Held = lit≤ tt
-
-highest : (v : Verdict) → voteKind v ≤ 19
-highest Accepted = lit≤ tt
-highest Rejected = lit≤ tt
-highest Held = lit≤ tt
+-- the reason's width, of a rejection alone
+reasonWidths : Verdict → List ℕ
+reasonWidths Accepted = []
+reasonWidths Rejected = 1 ∷ []
+reasonWidths Held = []
 
 -- a vote's bytes
-vote : (kind t i : ℕ) (g : Filed) (amount : ℕ) (w : Weighing) → List ℕ
-vote kind t i g amount w = written (heading ++ (1 ∷ 4 ∷ 2 ∷ [])) (headingNumbers (voteKind (w .verdict)) t i g ++ (kind ∷ amount ∷ w .weighed ∷ []))
+vote : (kind t i : ℕ) (g : Filed) (amount : ℕ) (v : Verdict) (n r : ℕ) → List ℕ
+vote kind t i g amount v n r = written (heading ++ (1 ∷ 4 ∷ 2 ∷ reasonWidths v)) (headingNumbers (voteKind v) t i g ++ (kind ∷ amount ∷ n ∷ reasonNumbers v r))
 
 -- A request of a kind 1 to 4 beside its vote: `more` are the bytes of its amount, if it has one, and what follows.
-module _ (kind t i : ℕ) (g : Filed) (amount : ℕ) (w : Weighing) (more tail : List ℕ) where
+module _ (kind t i : ℕ) (g : Filed) (amount n r : ℕ) (more tail : List ℕ) where
   asked : List ℕ
   asked = written heading (headingNumbers kind t i g) ++ more
 
-  abbrev own : List ℕ
-  own = vote kind t i g amount w
+  -- kind and length by the verdict
+  own-kind : (v : Verdict) → let own = vote kind t i g amount v n r in
+      ((getD (own ++ tail) 0 0 ≡ 17) × (length own ≡ 18)) ⊎ (((getD (own ++ tail) 0 0 ≡ 19) × (length own ≡ 18)) ⊎ ((getD (own ++ tail) 0 0 ≡ 23) × (length own ≡ 19)))
+  unfolding vote reasonWidths written bytesOf
+  own-kind Accepted = inl (refl, refl)
+  own-kind Rejected = inr (inr (refl, refl))
+  own-kind Held = inr (inl (refl, refl))
 
-  own-vote : 1 ≤ kind → kind ≤ 4 → (kind ≤ 3 → take 4 more ≡ bytesOf 4 amount) → (kind ≡ 4 → amount ≡ 0) → OwnEntry asked (length own) (own ++ tail)
+  own-vote : (v : Verdict) → let own = vote kind t i g amount v n r in
+      1 ≤ kind → kind ≤ 4 → (kind ≤ 3 → take 4 more ≡ bytesOf 4 amount) → (kind ≡ 4 → amount ≡ 0) → OwnEntry asked (length own) (own ++ tail)
   unfolding asked vote written bytesOf
-  own-vote low high brought none-brought =
+  own-vote v low high brought none-brought =
       record {
         heading = refl;
         filed = λ l. refl;
-        vote = λ l. (omega (arith, lowest (w .verdict), highest (w .verdict)), omega (arith, lowest (w .verdict), highest (w .verdict)), refl);
+        vote = λ l. own-kind v;
         event = λ l. refl;
         amount = λ l. sym (brought (omega arith));
         close = λ e. rw (none-brought (omega arith));
@@ -100,12 +101,13 @@ module _ (kind own t i : ℕ) (g g′ : Filed) (more then : List ℕ) where
       }
 
 -- which a call writes
-vote-bytes : (t i : ℕ) (g : Filed) (e : Event) (w : Weighing) → bytesOfEntries i (record { transaction = t; filed = g; told = Voted e w } ∷ []) ≡ vote (eventKind e) t i g (amountOf e) w
-unfolding bytesOfEntries bytesOfEntry rowOfKind entryRows vote written bytesOf
+vote-bytes : (t i : ℕ) (g : Filed) (e : Event) (w : Weighing)
+    → bytesOfEntries i (record { transaction = t; filed = g; told = Voted e w } ∷ []) ≡ vote (eventKind e) t i g (amountOf e) (w .verdict) (w .weighed) (w .reason)
+unfolding bytesOfEntries bytesOfEntry bytesAs rowOfKind entryRows vote reasonWidths written bytesOf
 vote-bytes t i g e w = by (w .verdict)
   where
-    by : (v : Verdict) → bytesOfEntries i (record { transaction = t; filed = g; told = Voted e (record { verdict = v; weighed = w .weighed }) } ∷ [])
-        ≡ vote (eventKind e) t i g (amountOf e) (record { verdict = v; weighed = w .weighed })
+    by : (v : Verdict) → bytesOfEntries i (record { transaction = t; filed = g; told = Voted e (record { verdict = v; weighed = w .weighed; reason = w .reason }) } ∷ [])
+        ≡ vote (eventKind e) t i g (amountOf e) v (w .weighed) (w .reason)
     by Accepted = refl
     by Rejected = refl
     by Held = refl
@@ -116,16 +118,16 @@ module _ (h : Heading) (rest tail : List ℕ) where
   entriesOf xs = bytesOfEntries (h .account) (map entryOf xs)
 
   own-request : (e : Event) (w : Weighing)
-      → let own = vote (eventKind e) (h .transaction) (h .account) (h .filed) (amountOf e) w in
+      → let own = vote (eventKind e) (h .transaction) (h .account) (h .filed) (amountOf e) (w .verdict) (w .weighed) (w .reason) in
       OwnEntry (bytesOfMessage (Request h e) ++ rest) (length own) (own ++ tail)
   unfolding bytesOfMessage rowOfKind messages asked written bytesOf
   own-request (Open a) w =
-      own-vote 1 (h .transaction) (h .account) (h .filed) a w (bytesOf 4 a ++ rest) tail (omega arith) (omega arith) (λ l. refl) (λ e. absurd (omega arith))
+      own-vote 1 (h .transaction) (h .account) (h .filed) a (w .weighed) (w .reason) (bytesOf 4 a ++ rest) tail (w .verdict) (omega arith) (omega arith) (λ l. refl) (λ e. absurd (omega arith))
   own-request (Withdraw a) w =
-      own-vote 2 (h .transaction) (h .account) (h .filed) a w (bytesOf 4 a ++ rest) tail (omega arith) (omega arith) (λ l. refl) (λ e. absurd (omega arith))
+      own-vote 2 (h .transaction) (h .account) (h .filed) a (w .weighed) (w .reason) (bytesOf 4 a ++ rest) tail (w .verdict) (omega arith) (omega arith) (λ l. refl) (λ e. absurd (omega arith))
   own-request (Deposit a) w =
-      own-vote 3 (h .transaction) (h .account) (h .filed) a w (bytesOf 4 a ++ rest) tail (omega arith) (omega arith) (λ l. refl) (λ e. absurd (omega arith))
-  own-request Close w = own-vote 4 (h .transaction) (h .account) (h .filed) 0 w rest tail (omega arith) (omega arith) (λ l. absurd (omega arith)) (λ e. refl)
+      own-vote 3 (h .transaction) (h .account) (h .filed) a (w .weighed) (w .reason) (bytesOf 4 a ++ rest) tail (w .verdict) (omega arith) (omega arith) (λ l. refl) (λ e. absurd (omega arith))
+  own-request Close w = own-vote 4 (h .transaction) (h .account) (h .filed) 0 (w .weighed) (w .reason) rest tail (w .verdict) (omega arith) (omega arith) (λ l. absurd (omega arith)) (λ e. refl)
 
   own-commit : (xs : List RuleEntry) (n : ℕ) → OwnEntry (bytesOfMessage (Commit h) ++ rest) n (entriesOf (rule.noted (h .transaction) (h .filed) ∷ xs) ++ tail)
   unfolding bytesOfMessage bytesOfEntries bytesOfEntry rowOfKind messages entryRows sent filed written bytesOf

@@ -38,14 +38,14 @@ module _ (R : rule.Rule State Event ℕ) where
   call-plain r bytes buffer =
       record {
         unread = λ n read. rw read refl;
-        roomless = λ m consumed read room. rw (read, lt-ltb (length buffer) 315 room) refl;
-        outOfOrder = λ m consumed read room order. rw (read, le-ltb (length buffer) 315 room, le-ltb 15 (headingOf m .account) (known bytes m consumed read), order) refl;
+        roomless = λ m consumed read room. rw (read, lt-ltb (length buffer) 323 room) refl;
+        outOfOrder = λ m consumed read room order. rw (read, le-ltb (length buffer) 323 room, le-ltb 15 (headingOf m .account) (known bytes m consumed read), order) refl;
         refused =
             λ m consumed n read room order answer.
-            rw (read, le-ltb (length buffer) 315 room, le-ltb 15 (headingOf m .account) (known bytes m consumed read), order, answer) refl;
+            rw (read, le-ltb (length buffer) 323 room, le-ltb 15 (headingOf m .account) (known bytes m consumed read), order, answer) refl;
         taken =
             λ m consumed xs read room order answer.
-            rw (read, le-ltb (length buffer) 315 room, le-ltb 15 (headingOf m .account) (known bytes m consumed read), order, answer, listed xs) refl;
+            rw (read, le-ltb (length buffer) 323 room, le-ltb 15 (headingOf m .account) (known bytes m consumed read), order, answer, listed xs) refl;
       }
 
   send-plain : (r : Register) (m : Message) → SendPlain R r m

@@ -1,17 +1,19 @@
 -- The entries of a call, read back from their bytes, are the entries: by induction on the entries, each by the reader's law.
 -- Assumes nothing.
-use Prim.Native.Nat.{ℕ, zero, suc, _≤_, _^_}
+use Prim.Native.Nat.{ℕ, zero, suc, _≤_, _<_, _^_}
 use mathlib.Core.Path.{_≡_, refl, _∙_, ap}
 use mathlib.Core.List.{List, [], _∷_, _++_, map}
+use mathlib.Core.Option.{Option, none, some}
 use native.Mathlib.Omega.{arith}
 use lib.ListN.{length, length-append}
 use lib.Pow.{pow-mono}
 use lib.Seq.{drop-at}
 use Rattle.rule.specs.Rule as rule
-use Rattle.rule.specs.Says.{EntrySays, EntriesSay}
+use Rattle.rule.specs.Says.{WeighingSays, EntrySays, EntriesSay}
 use Rattle.events.specs.declared.Event.{Event}
 use Rattle.events.specs.declared.State.{State}
-use Rattle.filing.specs.Entries.{RuleEntry, entryOf}
+use Rattle.events.specs.Events.{reasonByte}
+use Rattle.filing.specs.Entries.{RuleEntry, verdictIn, entryOf}
 use Rattle.filing.proofs.Slots.{weighing-forth}
 use Rattle.layout.specs.Fields.{rowOfKind, lastAccount}
 use Rattle.layout.specs.Number.{numberAt}
@@ -22,21 +24,22 @@ use Rattle.entry.proofs.Inverse.{reads-written}
 use Rattle.entry.proofs.Stored.{length-entry}
 use Rattle.register.specs.Fits.{EventFits, CommitFits, StateFits, BalanceFits}
 use Rattle.register.specs.Sequence.{ruleEntry, entriesFrom, entriesIn}
+use Rattle.register.specs.Plain.{Reasoned}
 use Rattle.register.proofs.Suits.{Suits}
 
 -- an entry as a value and back
-pub value-back : (x : RuleEntry) → ruleEntry (entryOf x) ≡ x
-value-back (rule.voted t g e w) = ap (rule.voted t g e) (weighing-forth w)
-value-back (rule.noted t g) = refl
-value-back (rule.applied t g e b) = refl
-value-back (rule.dropped t g e) = refl
+pub value-back : (x : RuleEntry) → Reasoned x → ruleEntry (entryOf x) ≡ x
+value-back (rule.voted t g e w) h = ap (rule.voted t g e) (weighing-forth w h)
+value-back (rule.noted t g) h = refl
+value-back (rule.applied t g e b) h = refl
+value-back (rule.dropped t g e) h = refl
 
 -- an entry is at least as long as its heading
 length-some : (x : RuleEntry) → 1 ≤ lengthOfTold (entryOf x .told)
 unfolding lengthOfTold rowOfKind entryRows
 length-some (rule.voted t g e w) = vote (w .verdict)
   where
-    vote : (v : rule.Verdict) → 1 ≤ lengthOfTold (entryOf (rule.voted t g e (record { verdict = v; weighed = w .weighed })) .told)
+    vote : (v : rule.Verdict) → 1 ≤ lengthOfTold (entryOf (rule.voted t g e (record { verdict = v; weighed = w .weighed; reason = w .reason })) .told)
     vote rule.accept = omega arith
     vote rule.reject = omega arith
     vote rule.hold = omega arith
@@ -54,17 +57,40 @@ module _ (R : rule.Rule State Event ℕ) (k : Suits R) (i : ℕ) (fits : i ≤ l
   abbrev Say : RuleEntry → Type 0
   Say x = EntrySays R EventFits CommitFits StateFits BalanceFits x
 
+  -- a reason fits its byte, and is not 0
+  reason-fits : (e : Event) (w : rule.Weighing) → WeighingSays R e w → reasonByte (w .reason) < 256
+  reason-fits e w h = by (w .reason) refl
+    where
+      by : (o : Option ℕ) → w .reason ≡ o → reasonByte o < 256
+      by none q = omega arith
+      by (some n) q = let given = h .given n q in k .reasoned e (given .0) n (given .1) .1
+
+  says-reasoned : (x : RuleEntry) → Say x → Reasoned x
+  says-reasoned (rule.voted t g e w) h = λ q. let given = h .1 .given 0 q in omega (arith, k .reasoned e (given .0) 0 (given .1) .0)
+  says-reasoned (rule.noted t g) h = tt
+  says-reasoned (rule.applied t g e b) h = tt
+  says-reasoned (rule.dropped t g e) h = tt
+
   -- what an entry says fits its bytes
   says-fits : (x : RuleEntry) → Say x → Writable i (entryOf x)
   says-fits (rule.voted t g e w) h =
       let few : 2 ^ R .progressLimit ≤ 2 ^ 8 = pow-mono (k .few) in
-      record { transaction = h .0 .0; account′ = fits; filed = h .0 .1; amount = h .0 .2; weighed = omega (arith, h .1, few); balance = omega arith }
+      record {
+        transaction = h .0 .0;
+        account′ = fits;
+        filed = h .0 .1;
+        amount = h .0 .2;
+        weighed = omega (arith, h .1 .few, few);
+        balance = omega arith;
+        reason = reason-fits e w (h .1);
+        alone = λ other. rw (h .1 .alone (λ rejects. other (ap verdictIn rejects))) refl;
+      }
   says-fits (rule.noted t g) h =
-      record { transaction = h .0; account′ = fits; filed = h .1; amount = omega arith; weighed = omega arith; balance = omega arith }
+      record { transaction = h .0; account′ = fits; filed = h .1; amount = omega arith; weighed = omega arith; balance = omega arith; reason = omega arith; alone = λ other. refl }
   says-fits (rule.applied t g e b) h =
-      record { transaction = h .0 .0; account′ = fits; filed = h .0 .1; amount = h .0 .2; weighed = omega arith; balance = omega (arith, h .1) }
+      record { transaction = h .0 .0; account′ = fits; filed = h .0 .1; amount = h .0 .2; weighed = omega arith; balance = omega (arith, h .1); reason = omega arith; alone = λ other. refl }
   says-fits (rule.dropped t g e) h =
-      record { transaction = h .0; account′ = fits; filed = h .1; amount = h .2; weighed = omega arith; balance = omega arith }
+      record { transaction = h .0; account′ = fits; filed = h .1; amount = h .2; weighed = omega arith; balance = omega arith; reason = omega arith; alone = λ other. refl }
 
   -- one entry, and the rest
   read-one : (x : RuleEntry) (rest : List ℕ) (most : ℕ) → Say x → entriesFrom (suc most) (bytesOfEntry i (entryOf x) ++ rest) ≡ x ∷ entriesFrom most rest
@@ -72,7 +98,7 @@ module _ (R : rule.Rule State Event ℕ) (k : Suits R) (i : ℕ) (fits : i ≤ l
   read-one x rest most h =
       rw (
         reads-written i (entryOf x) rest (says-fits x h),
-        value-back x,
+        value-back x (says-reasoned x h),
         drop-at (bytesOfEntry i (entryOf x)) rest (lengthOfTold (entryOf x .told)) (length-entry i (entryOf x)),
       )
 

@@ -146,9 +146,9 @@ module _ (R : rule.Rule State Event ℕ) where
   module _ (r : Register) (bytes buffer : List ℕ) where
     after-message : 1 ≤ kindIn bytes → kindIn bytes ≤ 6 → accountIn bytes ≤ lastAccount
         → refusalOf (afterMessage R r buffer (messageIn bytes) (lengthBy (kindIn bytes)) .reply)
-        ≡ firstOf (test (ltb (length buffer) 315) 4 ∷ accountTests R (kindIn bytes) (accountAt r (accountIn bytes)) (transactionIn bytes))
+        ≡ firstOf (test (ltb (length buffer) 323) 4 ∷ accountTests R (kindIn bytes) (accountAt r (accountIn bytes)) (transactionIn bytes))
     unfolding afterMessage
-    after-message low high known = go (ltb (length buffer) 315)
+    after-message low high known = go (ltb (length buffer) 323)
       where
         m : Message
         m = messageIn bytes
@@ -182,7 +182,7 @@ module _ (R : rule.Rule State Event ℕ) where
       kind = kindIn bytes
 
       rest : List Test
-      rest = test (ltb (length buffer) 315) 4 ∷ accountTests R kind (accountAt r (accountIn bytes)) (transactionIn bytes)
+      rest = test (ltb (length buffer) 323) 4 ∷ accountTests R kind (accountAt r (accountIn bytes)) (transactionIn bytes)
 
       go : (a b b′ c d : Bool) → leb 1 kind ≡ b → leb kind 6 ≡ b′ → ltb 15 (accountIn bytes) ≡ d
           → refusalOf

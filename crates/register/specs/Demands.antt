@@ -98,7 +98,7 @@ pub record Demand1 : Type 0 where
 -- are those of the rule's call on the account's lists.
 abbrev pub AsTheRule : Type 0
 AsTheRule =
-    (r : Register) (bytes buffer : List ℕ) (m : Message) (consumed : ℕ) → readOf bytes ≡ Reading′.Message m consumed → 315 ≤ length buffer
+    (r : Register) (bytes buffer : List ℕ) (m : Message) (consumed : ℕ) → readOf bytes ≡ Reading′.Message m consumed → 323 ≤ length buffer
     → inOrderOf (standingAt r (accountIn bytes)) ≡ true
     → Ruled r buffer (accountIn bytes) consumed (call panel (listsOf (standingAt r (accountIn bytes))) (ruleMessage m)) (callOf r bytes buffer)
 

@@ -2,6 +2,7 @@
 -- Assumes nothing.
 use Prim.Native.Nat.{ℕ, _≤_}
 use mathlib.Core.Path.{_≡_}
+use mathlib.Core.Logic.{_⊎_}
 use mathlib.Core.List.{List, [], _∷_}
 use mathlib.Core.Option.{none}
 use lib.ListN.{getD, take, drop}
@@ -21,8 +22,10 @@ pub record OwnEntry (bytes : List ℕ) (written : ℕ) (entries : List ℕ) : Ty
   pub heading : take 6 (drop 1 entries) ≡ take 6 (drop 1 bytes)
   -- and what is filed too, behind them, but of an abort, of which nothing is filed
   pub filed : getD bytes 0 0 ≤ 5 → take 4 (drop 7 entries) ≡ take 4 (drop 7 bytes)
-  -- a request has one entry, a vote of 18 bytes, with its event's kind and amount; Close brings no amount and has 0
-  pub vote : getD bytes 0 0 ≤ 4 → (17 ≤ getD entries 0 0) × (getD entries 0 0 ≤ 19) × (written ≡ 18)
+  -- a request has one entry, a vote of 18 bytes, or of 19 if it is a rejection, with its event's kind and amount; Close brings no amount and has 0
+  pub vote :
+      getD bytes 0 0 ≤ 4
+      → ((getD entries 0 0 ≡ 17) × (written ≡ 18)) ⊎ (((getD entries 0 0 ≡ 19) × (written ≡ 18)) ⊎ ((getD entries 0 0 ≡ 23) × (written ≡ 19)))
   pub event : getD bytes 0 0 ≤ 4 → getD entries 11 0 ≡ getD bytes 0 0
   pub amount : getD bytes 0 0 ≤ 3 → take 4 (drop 12 entries) ≡ take 4 (drop 11 bytes)
   pub close : getD bytes 0 0 ≡ 4 → take 4 (drop 12 entries) ≡ 0 ∷ 0 ∷ 0 ∷ 0 ∷ []

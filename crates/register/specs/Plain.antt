@@ -47,19 +47,19 @@ use Rattle.register.specs.Run.{lengthAt, numbersOf}
 use Rattle.register.specs.First.{freshRegister}
 
 module _ (R : rule.Rule State Event ℕ) where
-  -- a call: the reader's refusal, whatever register and buffer are; 4 with fewer than 315 bytes, whatever the register is; 5; and then the rule's answer
+  -- a call: the reader's refusal, whatever register and buffer are; 4 with fewer than 323 bytes, whatever the register is; 5; and then the rule's answer
   pub record CallPlain (r : Register) (bytes buffer : List ℕ) : Type 0 where
     pub unread : (n : ℕ) → readOf bytes ≡ Reading′.Refused n → calledBy R r bytes buffer ≡ record { reply = Refused n; register = r; buffer = buffer }
-    pub roomless : (m : Message) (consumed : ℕ) → readOf bytes ≡ Reading′.Message m consumed → length buffer < 315
+    pub roomless : (m : Message) (consumed : ℕ) → readOf bytes ≡ Reading′.Message m consumed → length buffer < 323
         → calledBy R r bytes buffer ≡ record { reply = Refused 4; register = r; buffer = buffer }
-    pub outOfOrder : (m : Message) (consumed : ℕ) → readOf bytes ≡ Reading′.Message m consumed → 315 ≤ length buffer
+    pub outOfOrder : (m : Message) (consumed : ℕ) → readOf bytes ≡ Reading′.Message m consumed → 323 ≤ length buffer
         → inOrderBy R (getD (r .accounts) (headingOf m .account) nowhere) ≡ false
         → calledBy R r bytes buffer ≡ record { reply = Refused 5; register = r; buffer = buffer }
-    pub refused : (m : Message) (consumed n : ℕ) → readOf bytes ≡ Reading′.Message m consumed → 315 ≤ length buffer
+    pub refused : (m : Message) (consumed n : ℕ) → readOf bytes ≡ Reading′.Message m consumed → 323 ≤ length buffer
         → inOrderBy R (getD (r .accounts) (headingOf m .account) nowhere) ≡ true
         → rule-call.call R (listsOf (getD (r .accounts) (headingOf m .account) nowhere)) (ruleMessage m) .answer ≡ rule-call.refused n
         → calledBy R r bytes buffer ≡ record { reply = Refused n; register = r; buffer = buffer }
-    pub taken : (m : Message) (consumed : ℕ) (xs : List RuleEntry) → readOf bytes ≡ Reading′.Message m consumed → 315 ≤ length buffer
+    pub taken : (m : Message) (consumed : ℕ) (xs : List RuleEntry) → readOf bytes ≡ Reading′.Message m consumed → 323 ≤ length buffer
         → let i = headingOf m .account in
         let called = rule-call.call R (listsOf (getD (r .accounts) i nowhere)) (ruleMessage m) in
         let entries = bytesOfEntries i (map entryOf xs) in
@@ -130,21 +130,28 @@ pub record ToldPlain (s : State) (n m k j : ℕ) : Type 0 where
   pub answered : answeredAs none s m ≡ record { refusal = none; state = some s; applied = m }
   pub exported : numbersOf (record { met = n; refused = m; consumed = k; written = j }) ≡ n ∷ m ∷ k ∷ j ∷ []
 
+-- a vote's reason is not 0, which stands for none
+abbrev pub Reasoned : RuleEntry → Type 0
+Reasoned (rule.voted t g e w) = w .reason ≡ some 0 → ⊥
+Reasoned (rule.noted t g) = Unit {0}
+Reasoned (rule.applied t g e b) = Unit {0}
+Reasoned (rule.dropped t g e) = Unit {0}
+
 -- an entry as the rule has it, by its kind; and nothing is lost
-pub record EntryPlain (t n : ℕ) (g : Filed) (e : Event) : Type 0 where
-  pub accepted : ruleEntry (record { transaction = t; filed = g; told = Voted e (record { verdict = Accepted; weighed = n }) }) ≡ rule.voted t g e (record { verdict = rule.accept; weighed = n })
-  pub rejected : ruleEntry (record { transaction = t; filed = g; told = Voted e (record { verdict = Rejected; weighed = n }) }) ≡ rule.voted t g e (record { verdict = rule.reject; weighed = n })
-  pub held : ruleEntry (record { transaction = t; filed = g; told = Voted e (record { verdict = Held; weighed = n }) }) ≡ rule.voted t g e (record { verdict = rule.hold; weighed = n })
+pub record EntryPlain (t n k : ℕ) (g : Filed) (e : Event) : Type 0 where
+  pub accepted : ruleEntry (record { transaction = t; filed = g; told = Voted e (record { verdict = Accepted; weighed = n; reason = 0 }) }) ≡ rule.voted t g e (record { verdict = rule.accept; weighed = n; reason = none })
+  pub rejected : (k ≡ 0 → ⊥) → ruleEntry (record { transaction = t; filed = g; told = Voted e (record { verdict = Rejected; weighed = n; reason = k }) }) ≡ rule.voted t g e (record { verdict = rule.reject; weighed = n; reason = some k })
+  pub held : ruleEntry (record { transaction = t; filed = g; told = Voted e (record { verdict = Held; weighed = n; reason = 0 }) }) ≡ rule.voted t g e (record { verdict = rule.hold; weighed = n; reason = none })
   pub noted : ruleEntry (record { transaction = t; filed = g; told = Noted }) ≡ rule.noted t g
   pub applied : ruleEntry (record { transaction = t; filed = g; told = Applied e n }) ≡ rule.applied t g e n
   pub dropped : ruleEntry (record { transaction = t; filed = g; told = Dropped e }) ≡ rule.dropped t g e
-  pub back : (x : RuleEntry) → ruleEntry (entryOf x) ≡ x
+  pub back : (x : RuleEntry) → Reasoned x → ruleEntry (entryOf x) ≡ x
 
 -- the entries that bytes hold: the one that is read, and those behind it; and what is seen of a reply
 pub record EntriesPlain (most : ℕ) (bytes : List ℕ) (x : Exchange) : Type 0 where
   pub none′ : entriesIn [] ≡ []
   pub whole : entriesIn bytes ≡ entriesFrom (length bytes) bytes
-  pub found : (e : Entry) (account whole : ℕ) → entry.readOf bytes ≡ Found e account whole → entriesFrom (suc most) bytes ≡ ruleEntry e ∷ entriesFrom most (drop whole bytes)
+  pub found : (e : Entry) (kind account whole : ℕ) → entry.readOf bytes ≡ Found e kind account whole → entriesFrom (suc most) bytes ≡ ruleEntry e ∷ entriesFrom most (drop whole bytes)
   pub ended : entry.readOf bytes ≡ Nothing → entriesFrom (suc most) bytes ≡ []
   pub refused : (n : ℕ) → answerIn (Refused n) bytes ≡ rule-call.refused n
   pub taken : (consumed written : ℕ) → answerIn (Taken consumed written) bytes ≡ rule-call.taken (entriesIn (take written bytes))
@@ -168,5 +175,5 @@ pub record PlainHolds : Type 0 where
   pub numbers : (rest : List ℕ) (kind t₁ t₂ t₃ t₄ a₁ a₂ : ℕ) → NumbersPlain rest kind t₁ t₂ t₃ t₄ a₁ a₂
   pub used : (a : Account) (t : ℕ) → UsedPlain a t
   pub told : (s : State) (n m k j : ℕ) → ToldPlain s n m k j
-  pub entry′ : (t n : ℕ) (g : Filed) (e : Event) → EntryPlain t n g e
+  pub entry′ : (t n k : ℕ) (g : Filed) (e : Event) → EntryPlain t n k g e
   pub entries : (most : ℕ) (bytes : List ℕ) (x : Exchange) → EntriesPlain most bytes x

@@ -95,7 +95,7 @@ module _ (R : Rule State Event ℕ) where
       test (not (leb 1 kind && leb kind 6)) 2 ∷
       test (ltb (length bytes) (lengthBy kind)) 1 ∷
       test (ltb 15 (accountIn bytes)) 3 ∷
-      test (ltb (length buffer) 315) 4 ∷
+      test (ltb (length buffer) 323) 4 ∷
       accountTests kind (standingAt r (accountIn bytes)) (transactionIn bytes)
 
   -- each is refused with the number of the first test that holds, and not at all if none does

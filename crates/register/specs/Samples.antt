@@ -117,10 +117,10 @@ refusedEntries =
     0x13 ∷ 0x35 ∷ 0x36 ∷ 0x37 ∷ 0x38 ∷ 0x00 ∷ 0x07 ∷ 0x41 ∷ 0x42 ∷ 0x43 ∷ 0x44 ∷ 0x03 ∷ 0x00 ∷ 0x00 ∷ 0x00 ∷ 0x02 ∷ 0x00 ∷ 0x00 ∷
     -- noted
     0x14 ∷ 0x09 ∷ 0x0a ∷ 0x0b ∷ 0x0c ∷ 0x00 ∷ 0x07 ∷ 0x49 ∷ 0x4a ∷ 0x4b ∷ 0x4c ∷
-    -- rejected withdraw 1, 2 outcomes
-    0x12 ∷ 0x31 ∷ 0x32 ∷ 0x33 ∷ 0x34 ∷ 0x00 ∷ 0x07 ∷ 0x2c ∷ 0x2d ∷ 0x2e ∷ 0x2f ∷ 0x02 ∷ 0x00 ∷ 0x00 ∷ 0x00 ∷ 0x01 ∷ 0x00 ∷ 0x02 ∷
-    -- rejected deposit 2, 2 outcomes
-    0x12 ∷ 0x35 ∷ 0x36 ∷ 0x37 ∷ 0x38 ∷ 0x00 ∷ 0x07 ∷ 0x41 ∷ 0x42 ∷ 0x43 ∷ 0x44 ∷ 0x03 ∷ 0x00 ∷ 0x00 ∷ 0x00 ∷ 0x02 ∷ 0x00 ∷ 0x02 ∷
+    -- rejected withdraw 1, 2 outcomes, reason 1: the committed close is applied in each
+    0x17 ∷ 0x31 ∷ 0x32 ∷ 0x33 ∷ 0x34 ∷ 0x00 ∷ 0x07 ∷ 0x2c ∷ 0x2d ∷ 0x2e ∷ 0x2f ∷ 0x02 ∷ 0x00 ∷ 0x00 ∷ 0x00 ∷ 0x01 ∷ 0x00 ∷ 0x02 ∷ 0x01 ∷
+    -- rejected deposit 2, 2 outcomes, reason 1
+    0x17 ∷ 0x35 ∷ 0x36 ∷ 0x37 ∷ 0x38 ∷ 0x00 ∷ 0x07 ∷ 0x41 ∷ 0x42 ∷ 0x43 ∷ 0x44 ∷ 0x03 ∷ 0x00 ∷ 0x00 ∷ 0x00 ∷ 0x02 ∷ 0x00 ∷ 0x02 ∷ 0x01 ∷
     []
 
 -- a torn message at the end
@@ -132,13 +132,13 @@ tornMessages =
     0x02 ∷ 0x00 ∷ 0x00 ∷ 0x00 ∷ 0x02 ∷ 0x00 ∷ 0x00 ∷ 0x00 ∷ 0x00 ∷ 0x00 ∷ 0x64 ∷ 0x00 ∷ 0x00 ∷ 0x00 ∷
     []
 
--- 434 bytes are just enough: 119 are written before the last call, which wants 315; in 314 bytes each message is refused with 4, and the run goes on
+-- 442 bytes are just enough: 119 are written before the last call, which wants 323; in 322 bytes each message is refused with 4, and the run goes on
 unfoldable pub samples : List Sample
 samples =
-    record { messages = sampleMessages; room = 434; numbers = 6 ∷ 0 ∷ 78 ∷ 150 ∷ []; entries = sampleEntries } ∷
-    record { messages = refusedMessages; room = 500; numbers = 14 ∷ 7 ∷ 167 ∷ 168 ∷ []; entries = refusedEntries } ∷
+    record { messages = sampleMessages; room = 442; numbers = 6 ∷ 0 ∷ 78 ∷ 150 ∷ []; entries = sampleEntries } ∷
+    record { messages = refusedMessages; room = 500; numbers = 14 ∷ 7 ∷ 167 ∷ 170 ∷ []; entries = refusedEntries } ∷
     record { messages = tornMessages; room = 400; numbers = 2 ∷ 1 ∷ 15 ∷ 18 ∷ []; entries = take 18 sampleEntries } ∷
-    record { messages = sampleMessages; room = 314; numbers = 6 ∷ 6 ∷ 78 ∷ 0 ∷ []; entries = [] } ∷
+    record { messages = sampleMessages; room = 322; numbers = 6 ∷ 6 ∷ 78 ∷ 0 ∷ []; entries = [] } ∷
     record { messages = []; room = 1; numbers = 0 ∷ 0 ∷ 0 ∷ 0 ∷ []; entries = [] } ∷
     []
 

@@ -31,13 +31,13 @@ module _ (R : Rule State Event ℕ) where
   -- on any register
   abbrev pub CallIsSend : Type 0
   CallIsSend =
-      (r : Register) (m : Message) (rest buffer : List ℕ) → Writable m → 315 ≤ length buffer
+      (r : Register) (m : Message) (rest buffer : List ℕ) → Writable m → 323 ≤ length buffer
       → IsSent m (sentBy R r m) (calledBy R r (bytesOfMessage m ++ rest) buffer)
 
   -- on one that calls of a fresh register led to, whose numbers have room in their bytes
   abbrev pub SentReadsBack : Type 0
   SentReadsBack =
-      (inputs : List Input) → ByteStrings inputs → (m : Message) (rest buffer : List ℕ) → Writable m → 315 ≤ length buffer
+      (inputs : List Input) → ByteStrings inputs → (m : Message) (rest buffer : List ℕ) → Writable m → 323 ≤ length buffer
       → let r = after R (freshBy R) inputs in
       let called = calledBy R r (bytesOfMessage m ++ rest) buffer in
       refusalIn (sentBy R r m .answer) ≡ none → entriesIn (take (writtenOf (called .reply)) (called .buffer)) ≡ map ruleEntry (listOf (sentBy R r m .entries))

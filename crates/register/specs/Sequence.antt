@@ -77,7 +77,7 @@ ruleEntry e = toldAs (e .transaction) (e .filed) (e .told)
 
 -- an entry that was read, and those of the bytes behind it; where there is none, the entries have ended
 abbrev pub readOn : (bytes : List ℕ) → (List ℕ → List RuleEntry) → EntryReading → List RuleEntry
-readOn bytes rest (Found e account whole) = ruleEntry e ∷ rest (drop whole bytes)
+readOn bytes rest (Found e kind account whole) = ruleEntry e ∷ rest (drop whole bytes)
 readOn bytes rest Nothing = []
 
 -- the entries that bytes hold, one after the other, at most so many

@@ -199,6 +199,12 @@ module _ {G S E B : Type 0} (R : Rule S E B) (e : E) (xs : List (Slot G E)) (s :
         );
       }
 
+-- No verdict but a rejection takes a reason over.
+pub reason-alone : (v : Verdict) (reason : Option ℕ) → (v ≡ reject → ⊥) → reasonBy v reason ≡ none
+reason-alone accept reason h = refl
+reason-alone reject reason h = absurd (h refl)
+reason-alone hold reason h = refl
+
 -- Where the guard does not hold there is a reason.
 pub against : {S E B : Type 0} (R : Rule S E B) (e : E) (s : S) → guard R e s ≡ false → (n : ℕ) × (R .reason e s ≡ some n)
 unfolding guard
@@ -234,14 +240,9 @@ module _ {G S E B : Type 0} (R : Rule S E B) (e : E) (s : S) where
         idle = λ h roomy empty v. idle-decide G R e s roomy (rw empty at v);
       }
     where
-      without : (v : Verdict) (reason : Option ℕ) → (v ≡ reject → ⊥) → reasonBy v reason ≡ none
-      without accept reason h = refl
-      without reject reason h = absurd (h refl)
-      without hold reason h = refl
-
       by : (b : Bool) → (cond b unweighed (weighing R e s progress) .verdict ≡ reject → ⊥) → cond b unweighed (weighing R e s progress) .reason ≡ none
       by true h = refl
-      by false h = without (weigh R e (outcomes R progress s)) (R .reason e (outcome R progress 0 s)) h
+      by false h = reason-alone (weigh R e (outcomes R progress s)) (R .reason e (outcome R progress 0 s)) h
   decided progress (x ∷ held) =
       record {
         behind = λ h. refl;

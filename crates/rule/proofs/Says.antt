@@ -19,6 +19,7 @@ use Rattle.rule.specs.Step.{Step, named, mark, without, dropping, settle
 use Rattle.rule.specs.Call.{written, refusal, callBy, call}
 use Rattle.rule.specs.Says.{SlotsSay, MessageSays, WeighingSays, AccountSays, EntriesSay}
 use Rattle.rule.proofs.Outcomes.{outcomes-length}
+use Rattle.rule.proofs.Exact.{reason-alone}
 
 undecided-few : {G E : Type 0} (xs : List (Slot G E)) → undecidedOf xs ≤ length xs
 undecided-few [] = omega arith
@@ -33,7 +34,7 @@ module _ {S E B : Type 0} (R : Rule S E B) (e : E) where
   taken-over hold s′ n h = absurd (Option·some-ne-none n (sym h))
 
   unweighed-says : WeighingSays R e unweighed
-  unweighed-says = record { few = omega arith; given = λ n h. absurd (Option·some-ne-none n (sym h)) }
+  unweighed-says = record { few = omega arith; given = λ n h. absurd (Option·some-ne-none n (sym h)); alone = λ h. refl }
 
 module _ {G S E B : Type 0} (R : Rule S E B) (e : E) (s : S) where
   decide-says : (xs : List (Slot G E)) → WeighingSays R e (decide R e s xs)
@@ -46,6 +47,7 @@ module _ {G S E B : Type 0} (R : Rule S E B) (e : E) (s : S) where
           record {
             few = le-trans (le-of-eq (outcomes-length R xs s)) (pow-mono (omega (arith, undecided-few xs, leb-false (R .progressLimit) (length xs) q)));
             given = λ n h. (outcome R xs 0 s, taken-over R e (weigh R e (outcomes R xs s)) (outcome R xs 0 s) n h);
+            alone = reason-alone (weigh R e (outcomes R xs s)) (R .reason e (outcome R xs 0 s));
           }
 
   behind-says : (held xs : List (Slot G E)) → WeighingSays R e (decideBehind R held e s xs)

@@ -95,7 +95,7 @@ reached-more r bytes buffer b reached =
     }
 
 -- the entries that it sends are read back from their bytes
-reads-back : (r : Register) (m : Message) (next : Register) (entries : Entries) (buffer : List ℕ) → Reached r → Writable m → 315 ≤ length buffer → sentOf r m ≡ takenSent next entries
+reads-back : (r : Register) (m : Message) (next : Register) (entries : Entries) (buffer : List ℕ) → Reached r → Writable m → 323 ≤ length buffer → sentOf r m ≡ takenSent next entries
     → EntryLines (bytesOfEntries (headingOf m .account) (listOf entries)) (linesOf (headingOf m .account) (listOf entries))
 reads-back r m next entries buffer reached w room e =
     let free : refusalIn (sentOf r m .answer) ≡ no-number = rw e in
@@ -131,7 +131,7 @@ record Alike (turn : Turn) (whole : ℕ) (called : Result) : Type 0 where
   consumed : passedOf (turn .reply) whole .consumed ≡ passedOf (called .reply) whole .consumed
   stops : passedOf (turn .reply) whole .stops ≡ passedOf (called .reply) whole .stops
 
-module _ (r : Register) (bytes buffer : List ℕ) (reached : Reached r) (are : AreBytes bytes) (room : 315 ≤ length buffer) where
+module _ (r : Register) (bytes buffer : List ℕ) (reached : Reached r) (are : AreBytes bytes) (room : 323 ≤ length buffer) where
   says-refused : (n : ℕ) → callOf r bytes buffer .reply ≡ Refused n → Says (seenAs r bytes buffer) (refusedLine n)
   says-refused n e = rw (refused-plain n) (by.refused n e)
 
@@ -150,8 +150,8 @@ module _ (r : Register) (bytes buffer : List ℕ) (reached : Reached r) (are : A
   alike (unsent m consumed n q high e) = rw (call-sent r bytes buffer room m consumed _ q e) (record { refused = refl; register = refl; consumed = refl; stops = refl })
   alike (turn.taken m consumed next entries q e) = rw (call-sent r bytes buffer room m consumed _ q e) (record { refused = refl; register = refl; consumed = refl; stops = refl })
 
-  -- a call writes no more than 315 bytes
-  written-few : {R : Rule State Event ℕ} → Suits R → {called : Result} → Calling R r bytes buffer called → writtenOf (called .reply) ≤ 315
+  -- a call writes no more than 323 bytes
+  written-few : {R : Rule State Event ℕ} → Suits R → {called : Result} → Calling R r bytes buffer called → writtenOf (called .reply) ≤ 323
   written-few suits (call.refused n why) = omega arith
   written-few suits (call.taken m consumed t) = taken-bytes _ r m suits (t .free) (headingOf m .account)
 
@@ -186,9 +186,9 @@ module _ (r : Register) (bytes buffer : List ℕ) (reached : Reached r) (are : A
     one-takes most whole written seen q w rest = one-more most seen (a-byte w) (rw (gives (Taken whole written) q) rest)
 
     -- the buffer that the run goes on with
-    room-left : (whole written : ℕ) → x .reply ≡ Taken whole written → length buffer ≤ length (drop written (x .buffer)) + 315
+    room-left : (whole written : ℕ) → x .reply ≡ Taken whole written → length buffer ≤ length (drop written (x .buffer)) + 323
     room-left whole written q =
-        let few : written ≤ 315 = rw (gives (Taken whole written) q) at (written-few first-suits (calling _ r bytes buffer)) in
+        let few : written ≤ 323 = rw (gives (Taken whole written) q) at (written-few first-suits (calling _ r bytes buffer)) in
         let size : length (x .buffer) ≡ length buffer = rw is (call-moves _ first-suits r bytes buffer .size) in
         omega (arith, length-drop written (x .buffer))
 
@@ -203,20 +203,20 @@ tail-is e = cc
 
 -- from a register on
 pub beside : {bytes buffer : List ℕ} {inputs : List Input} {seen : List Exchange} {passed : ℕ} → Calls bytes buffer inputs seen passed
-    → (r : Register) → Reached r → AreBytes bytes → seen ≡ exchanges r inputs → (most : ℕ) → length bytes ≤ most → 315 * length bytes ≤ length buffer
+    → (r : Register) → Reached r → AreBytes bytes → seen ≡ exchanges r inputs → (most : ℕ) → length bytes ≤ most → 323 * length bytes ≤ length buffer
     → Beside (turnsFrom most r bytes) seen
 beside ended r reached are e most h k = rw (turns-none most r [] refl) none
 beside (stopped n some q which) r reached are e zero h k = absurd (omega arith)
 beside (stopped {bytes} {buffer} {x} n some q which) r reached are e (suc most) h k = one-stops r bytes buffer reached are (omega arith) x (head-is e) most n some q which
 beside (skipped n whole q high w rest) r reached are e zero h k = absurd (omega (arith, a-byte w))
 beside (skipped {bytes} {buffer} {x} {inputs} {seen} n whole q high w rest) r reached are e (suc most) h k =
-    let room : 315 ≤ length buffer = omega (arith, a-byte w) in
+    let room : 323 ≤ length buffer = omega (arith, a-byte w) in
     let d = length-drop whole bytes in
     one-skips r bytes buffer reached are room x (head-is e) most n whole seen high q w
     (beside rest (callOf r bytes buffer .register) (reached-more r bytes buffer are reached) (bytes-left bytes whole are) (tail-is e) most (omega (arith, some-bytes w, a-byte w)) (omega (arith, some-bytes w)))
 beside (taken whole written q w rest) r reached are e zero h k = absurd (omega (arith, a-byte w))
 beside (taken {bytes} {buffer} {x} {inputs} {seen} whole written q w rest) r reached are e (suc most) h k =
-    let room : 315 ≤ length buffer = omega (arith, a-byte w) in
+    let room : 323 ≤ length buffer = omega (arith, a-byte w) in
     let d = length-drop whole bytes in
     let left = room-left r bytes buffer reached are room x (head-is e) whole written q in
     one-takes r bytes buffer reached are room x (head-is e) most whole written seen q w

@@ -102,7 +102,7 @@ lines-more account places i h = rw (add-one, take-suc places i noEntry h, lines-
 -- after i of so many entries: where the next line goes, and what is put
 pub record Lined (places : List Entry) (account count : ℕ) (before after : List ℕ) (at i : ℕ) : Type 0 where
   pub passed : i ≤ count
-  pub room : at ≤ 68 * i
+  pub room : at ≤ 72 * i
   pub size : length after ≡ length before
   pub place : at ≡ length (linesOf account (take i places))
   pub stored : after ≡ sets before 0 (linesOf account (take i places))

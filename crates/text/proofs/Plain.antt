@@ -56,7 +56,7 @@ plain-holds =
     record {
       decimals = decimal-plain;
       values = λ sofar digit digits. record { none = refl; more = value-last sofar digit digits };
-      lines = λ e account buffer. record { short = λ h. rw (lt-ltb (length buffer) 68 h) refl; enough = λ h. rw (le-ltb (length buffer) 68 h) refl };
+      lines = λ e account buffer. record { short = λ h. rw (lt-ltb (length buffer) 72 h) refl; enough = λ h. rw (le-ltb (length buffer) 72 h) refl };
       steps = steps-plain;
       contracts =
           λ s r input text before after at most next.

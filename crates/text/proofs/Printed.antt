@@ -154,7 +154,7 @@ lines-fit = line-length
 pub line-read-back : LineReadBack
 unfolding writeLineOf
 line-read-back e account buffer h =
-    rw (le-ltb (length buffer) 68 h) (record { answer = refl; text = take-at (lineOf account e) (drop (length (lineOf account e)) buffer) (length (lineOf account e)) refl })
+    rw (le-ltb (length buffer) 72 h) (record { answer = refl; text = take-at (lineOf account e) (drop (length (lineOf account e)) buffer) (length (lineOf account e)) refl })
 
 pub line-refuses : LineRefuses
 unfolding writeLineOf

@@ -29,10 +29,10 @@ module _ (r : Register) (bytes buffer : List ℕ) where
   call-unread n q = rw q
 
   -- a message that is sent and gives this
-  pub call-sent : 315 ≤ length buffer → (m : Message) (consumed : ℕ) (sent : Sent) → readOf bytes ≡ Reading′.Message m consumed → sentOf r m ≡ sent
+  pub call-sent : 323 ≤ length buffer → (m : Message) (consumed : ℕ) (sent : Sent) → readOf bytes ≡ Reading′.Message m consumed → sentOf r m ≡ sent
       → callOf r bytes buffer ≡ wroteOf r buffer (headingOf m .account) consumed sent
   unfolding calledBy afterMessage
-  call-sent room m consumed sent q e = rw (q, le-ltb (length buffer) 315 room, e)
+  call-sent room m consumed sent q e = rw (q, le-ltb (length buffer) 323 room, e)
 
   refused-call : (n : ℕ) → IsCall bytes (refusedTurn r n) (refusedWith r buffer n)
   refused-call n =
@@ -61,7 +61,7 @@ module _ (r : Register) (bytes buffer : List ℕ) where
             (rw (← n, ← same) (take-append-seam bytes′ (drop (length bytes′) buffer)), rw same);
       }
 
-  is-call : 315 ≤ length buffer → {turn : Turn} → Turning r bytes turn → IsCall bytes turn (callOf r bytes buffer)
+  is-call : 323 ≤ length buffer → {turn : Turn} → Turning r bytes turn → IsCall bytes turn (callOf r bytes buffer)
   is-call room (unread n q) = rw (call-unread n q) (refused-call n)
   is-call room (unsent m consumed n q high e) = rw (call-sent room m consumed _ q e) (refused-call n)
   is-call room (taken m consumed next entries q e) = rw (call-sent room m consumed _ q e) (taken-call (headingOf m .account) consumed next entries (account-read bytes m consumed q))

@@ -38,4 +38,4 @@ longEntry =
     }
 
 abbrev pub LongestLineIs : Type 0
-LongestLineIs = length (lineOf 65535 longEntry) ≡ 68
+LongestLineIs = length (lineOf 65535 longEntry) ≡ 72

@@ -47,10 +47,10 @@ pub record WordsPlain (t a s : ℕ) : Type 0 where
 -- the line of an entry of each kind
 abbrev pub LinesPlain : Type 0
 LinesPlain =
-    (t a s : ℕ) (e : Event) (n : ℕ)
-    → map (λ (told : Told). lineOf a (record { transaction = t; filed = record { second = s }; told = told })) (ofEachKind e n)
+    (t a s : ℕ) (e : Event) (n k : ℕ)
+    → map (λ (told : Told). lineOf a (record { transaction = t; filed = record { second = s }; told = told })) (ofEachKind e n k)
     ≡ (quoted "accepted" ++ (headingText t a s ++ (eventText e ++ (field n ++ quoted "\n")))) ∷
-    (quoted "rejected" ++ (headingText t a s ++ (eventText e ++ (field n ++ quoted "\n")))) ∷
+    (quoted "rejected" ++ (headingText t a s ++ (eventText e ++ (field n ++ (field k ++ quoted "\n"))))) ∷
     (quoted "held" ++ (headingText t a s ++ (eventText e ++ (field n ++ quoted "\n")))) ∷
     (quoted "noted" ++ (headingText t a s ++ quoted "\n")) ∷
     (quoted "applied" ++ (headingText t a s ++ (eventText e ++ (field n ++ quoted "\n")))) ∷
@@ -71,7 +71,7 @@ LinesEnd = (account : ℕ) (e : Entry) → Ended (lineOf account e)
 
 -- an account's number has 2 bytes
 abbrev pub LinesFit : Type 0
-LinesFit = (account : ℕ) (e : Entry) → account < 65_536 → length (lineOf account e) ≤ 68
+LinesFit = (account : ℕ) (e : Entry) → account < 65_536 → length (lineOf account e) ≤ 72
 
 -- the answer is the line's length, and the buffer begins with the line
 pub record Leaves (line : List ℕ) (w : Wrote) : Type 0 where
@@ -79,12 +79,12 @@ pub record Leaves (line : List ℕ) (w : Wrote) : Type 0 where
   pub text : take (length line) (w .buffer) ≡ line
 
 abbrev pub LineReadBack : Type 0
-LineReadBack = (e : Entry) (account : ℕ) (buffer : List ℕ) → 68 ≤ length buffer → Leaves (lineOf account e) (writeLineOf e account buffer)
+LineReadBack = (e : Entry) (account : ℕ) (buffer : List ℕ) → 72 ≤ length buffer → Leaves (lineOf account e) (writeLineOf e account buffer)
 
 -- a line is refused exactly if the buffer is too short for the longest
 abbrev pub LineRefuses : Type 0
 LineRefuses =
-    (e : Entry) (account : ℕ) (buffer : List ℕ) → saidOfWriting (writeLineOf e account buffer .answer) .refusal ≡ firstOf (test (ltb (length buffer) 68) 4 ∷ [])
+    (e : Entry) (account : ℕ) (buffer : List ℕ) → saidOfWriting (writeLineOf e account buffer .answer) .refusal ≡ firstOf (test (ltb (length buffer) 72) 4 ∷ [])
 
 -- an account's number has 2 bytes
 abbrev pub LineStays : Type 0

@@ -42,7 +42,7 @@ pub record IsCall (bytes : List ℕ) (turn : Turn) (called : Result) : Type 0 wh
 
 -- with any buffer that is not too short
 abbrev pub TurnIsCall : Type 0
-TurnIsCall = (r : Register) (bytes buffer : List ℕ) → 315 ≤ length buffer → IsCall bytes (turnAt r bytes) (callOf r bytes buffer)
+TurnIsCall = (r : Register) (bytes buffer : List ℕ) → 323 ≤ length buffer → IsCall bytes (turnAt r bytes) (callOf r bytes buffer)
 
 -- bytes that are entries, one after the other and nothing else, each the one that is read there, and their lines
 pub data EntryLines : (bytes text : List ℕ) → Type 0 where
@@ -71,7 +71,7 @@ pub record Prints (bytes : List ℕ) (seen : List Exchange) (met refused : ℕ) 
 -- every input that is not too long, by its run with any buffer that is never too short
 abbrev pub OutputIsItsRun : Type 0
 OutputIsItsRun =
-    (bytes buffer : List ℕ) → AreBytes bytes → length bytes ≤ 65_536 → 315 * length bytes ≤ length buffer
+    (bytes buffer : List ℕ) → AreBytes bytes → length bytes ≤ 65_536 → 323 * length bytes ≤ length buffer
     → (calls : CallsOfRun bytes buffer)
     → Prints bytes (exchanges freshRegister (calls .inputs)) (runOf bytes buffer .counts .met) (runOf bytes buffer .counts .refused)
 

@@ -28,10 +28,10 @@ pub record ValuePlain (sofar digit : ℕ) (digits : List ℕ) : Type 0 where
   pub none : valueFrom sofar [] ≡ sofar
   pub more : valueFrom sofar (digits ++ (digit ∷ [])) ≡ valueFrom sofar digits * 10 + (digit - 48)
 
--- the writer of a line: 4 with fewer than 68 bytes; else the line, its length, and the rest of the buffer as it was
+-- the writer of a line: 4 with fewer than 72 bytes; else the line, its length, and the rest of the buffer as it was
 pub record LineWritten (e : Entry) (account : ℕ) (buffer : List ℕ) : Type 0 where
-  pub short : length buffer < 68 → writeLineOf e account buffer ≡ record { answer = Refused 4; buffer = buffer }
-  pub enough : 68 ≤ length buffer
+  pub short : length buffer < 72 → writeLineOf e account buffer ≡ record { answer = Refused 4; buffer = buffer }
+  pub enough : 72 ≤ length buffer
       → writeLineOf e account buffer ≡ record { answer = Written (length (lineOf account e)); buffer = lineOf account e ++ drop (length (lineOf account e)) buffer }
 
 -- the beginning, one message, and the end
@@ -69,8 +69,8 @@ pub record ContractsPlain (s r : Served) (input text before after : List ℕ) (a
 
 -- the longest line, the longest text of a step, the longest input
 pub record Longest : Type 0 where
-  pub line : longestLine ≡ 68
-  pub text : longestText ≡ 1_156
+  pub line : longestLine ≡ 72
+  pub text : longestText ≡ 1_224
   pub input : longestInput ≡ 65_536
 
 pub record PlainHolds : Type 0 where

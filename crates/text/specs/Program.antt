@@ -13,9 +13,9 @@ use Rattle.text.specs.declared.program.Served.{Served}
 use Rattle.text.specs.Text.{Put}
 use Rattle.text.specs.Output.{longestInput, firstLine, tooLong, lastLine, Turn, turnAt, passedAt, outputOf}
 
--- the room that the text of any step needs: 17 lines of 68 bytes
+-- the room that the text of any step needs: 17 lines of 72 bytes
 abbrev pub longestText : ℕ
-longestText = 1_156
+longestText = 1_224
 
 -- the beginning: an input that is too long is passed over whole
 abbrev pub beginText : (input : List ℕ) → List ℕ

@@ -48,8 +48,8 @@ refusedLines =
     "held 892745528 7 1094861636 deposit 2 0\n" ∷
     "refused 9\n" ∷
     "noted 151653132 7 1229605708\n" ∷
-    "rejected 825373492 7 741158447 withdraw 1 2\n" ∷
-    "rejected 892745528 7 1094861636 deposit 2 2\n" ∷
+    "rejected 825373492 7 741158447 withdraw 1 2 1\n" ∷
+    "rejected 892745528 7 1094861636 deposit 2 2 1\n" ∷
     "refused 10\n" ∷
     "refused 11\n" ∷
     "refused 2\n" ∷

@@ -50,9 +50,15 @@ eventName e =
 abbrev pub headingFields : (transaction account : ℕ) → Filed → List (List ℕ)
 headingFields t account g = decimal t ∷ decimal account ∷ decimal (g .second) ∷ []
 
--- the fields behind the second: the event and its amount, and the outcomes weighed or the balance; none after a commit noted
+-- the reason of a rejection is the last field of its line, and no other vote has one
+abbrev pub reasonFields : Verdict → (reason : ℕ) → List (List ℕ)
+reasonFields Accepted reason = []
+reasonFields Rejected reason = decimal reason ∷ []
+reasonFields Held reason = []
+
+-- the fields behind the second: the event and its amount, and the outcomes weighed with the reason of a rejection, or the balance; none after a commit noted
 abbrev pub thenFields : Told → List (List ℕ)
-thenFields (Voted e weighing) = eventName e ∷ decimal (amountOf e) ∷ decimal (weighing .weighed) ∷ []
+thenFields (Voted e weighing) = eventName e ∷ decimal (amountOf e) ∷ decimal (weighing .weighed) ∷ reasonFields (weighing .verdict) (weighing .reason)
 thenFields Noted = []
 thenFields (Applied e balance) = eventName e ∷ decimal (amountOf e) ∷ decimal balance ∷ []
 thenFields (Dropped e) = eventName e ∷ decimal (amountOf e) ∷ []
@@ -72,9 +78,9 @@ unfoldable pub linesOf : (account : ℕ) → List Entry → List ℕ
 linesOf account [] = []
 linesOf account (e ∷ es) = lineOf account e ++ linesOf account es
 
--- the longest line: a vote on a withdrawal, ten digits for each number of 4 bytes, five for the account's 2
+-- the longest line: the rejection of a withdrawal, ten digits for each number of 4 bytes, five for the account's 2, three for the reason
 abbrev pub longestLine : ℕ
-longestLine = 68
+longestLine = 72
 
 -- the writer of a line: 4 where the buffer is too short for the longest
 unfoldable pub writeLineOf : Entry → (account : ℕ) (buffer : List ℕ) → Wrote

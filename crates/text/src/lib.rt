@@ -13,4 +13,4 @@ pub use program::finish;
 pub use program::serve;
 
 // The room that a line of text needs.
-pub const LONGEST_LINE: usize = 68;
+pub const LONGEST_LINE: usize = 72;

@@ -4,13 +4,14 @@ ghost use mathlib.Core.Path.{_≡_};
 ghost use Prim.Native.Nat.{_+_, _≤_, _<_};
 ghost use lib.ListN.{length, take};
 ghost use Rattle.events.specs.Kinds.{amountOf};
-ghost use Rattle.text.specs.Text.{decimalIn, decimal, eventName, headingFields, thenFields, spaced, lineOf, longestLine, writeLineOf, Put, farthest};
+ghost use Rattle.text.specs.Text.{decimalIn, decimal, eventName, headingFields, reasonFields, thenFields, spaced, lineOf, longestLine, writeLineOf, Put, farthest};
 use crate::words;
 use crate::words::Word;
 use events::Event;
 use filing::Entry;
 use filing::Filed;
 use filing::Told;
+use filing::Verdict;
 use layout::Writing;
 
 // Writes the line of an entry of that account to the beginning of a buffer.
@@ -23,9 +24,9 @@ pub fn write_line(entry: Entry, account: u16, buffer: &mut [u8]) -> Writing
     Writing::Written(put_line(buffer, 0, entry, account))
 }
 
-// Stores the line of an entry of that account from `at` on. Its pieces have 73 bytes at most, each by itself; the line has fewer, since an account's number is short.
+// Stores the line of an entry of that account from `at` on. Its pieces have 84 bytes at most, each by itself; the line has fewer, since an account's number is short.
 pub(crate) fn put_line(buffer: &mut [u8], at: usize, entry: Entry, account: u16) -> usize
-    requires { ⌜ at + 73 ≤ farthest ⌝ }
+    requires { ⌜ at + 84 ≤ farthest ⌝ }
     ensures { λ r. ⌜ Put (lineOf account entry) at longestLine (now (buffer .entry)) r (now (buffer .exit)) ⌝ }
 {
     let told = entry.told;
@@ -48,14 +49,30 @@ fn put_heading(buffer: &mut [u8], at: usize, transaction: u32, account: u16, fil
 
 // Stores what follows transaction, account and second from `at` on.
 fn put_then(buffer: &mut [u8], at: usize, told: Told) -> usize
-    requires { ⌜ at + 31 ≤ farthest ⌝ }
-    ensures { λ r. ⌜ Put (spaced (thenFields told)) at 31 (now (buffer .entry)) r (now (buffer .exit)) ⌝ }
+    requires { ⌜ at + 42 ≤ farthest ⌝ }
+    ensures { λ r. ⌜ Put (spaced (thenFields told)) at 42 (now (buffer .entry)) r (now (buffer .exit)) ⌝ }
 {
     match told {
-        Told::Voted(event, weighing) => put_with(buffer, at, event, weighing.weighed),
+        Told::Voted(event, weighing) => {
+            let verdict = weighing.verdict;
+            let weighed = put_with(buffer, at, event, weighing.weighed);
+            put_reason(buffer, weighed, verdict, weighing.reason)
+        }
         Told::Noted => at,
         Told::Applied(event, balance) => put_with(buffer, at, event, balance),
         Told::Dropped(event) => put_event(buffer, at, event),
+    }
+}
+
+// Stores the reason of a rejection from `at` on; nothing for any other vote.
+fn put_reason(buffer: &mut [u8], at: usize, verdict: Verdict, reason: u8) -> usize
+    requires { ⌜ at + 11 ≤ farthest ⌝ }
+    ensures { λ r. ⌜ Put (spaced (reasonFields verdict reason)) at 11 (now (buffer .entry)) r (now (buffer .exit)) ⌝ }
+{
+    match verdict {
+        Verdict::Accepted => at,
+        Verdict::Rejected => put_number(buffer, at, reason as u32),
+        Verdict::Held => at,
     }
 }
 

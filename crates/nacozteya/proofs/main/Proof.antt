@@ -10,7 +10,7 @@ use Rattle.nacozteya.proofs.main.Statement.{statement}
 use Rattle.nacozteya.proofs.main.Tie as tie
 
 abbrev Inv-loop : tie.InvT-loop
-Inv-loop input count out₀ served₀ out served = length out ≡ 1_156
+Inv-loop input count out₀ served₀ out served = length out ≡ 1_224
 
 abbrev μ-loop : tie.MeasureT-loop
 μ-loop input count out₀ served₀ out served = count - served .from
