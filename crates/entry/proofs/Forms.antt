@@ -16,7 +16,7 @@ use Rattle.entry.specs.Answers.{longestCall, writeOf}
 use Rattle.entry.specs.Forms.{EntryReadingForm, EntriesTogether, WriterLeaves}
 
 pub entry-reading-form : EntryReadingForm
-entry-reading-form = record { found = λ e a n. refl; nothing = refl }
+entry-reading-form = record { found = λ e k a n. refl; nothing = refl }
 
 pub entries-together : EntriesTogether
 unfolding bytesOfEntries
