@@ -1,5 +1,6 @@
 -- `entry::reader::read_entry` meets its contract: each way out is a law of the reader's definition.
 -- Assumes nothing.
+use native.Mathlib.Omega.{arith}
 use mathlib.Core.Path.{sym}
 use Rattle.entry.proofs.Reading.{code-unknown, code-short, code-reason, code-elsewhere, code-fitting}
 use borrow.Author.Needs.{needs}
@@ -69,7 +70,7 @@ entry-of-requires c κs =
     let at-number1 = at-shape-of .before in
     let known = at-number1 .before in
     code-reason (known .before .args .bytes .now) (at-number1 .number1 .ensures) (at-shape-of .shape-of .ensures) (at-if1 .if1 .left) (at-if2 .if2 .left)
-    (at-read-numbers .read-numbers .ensures) (known .shared-slice-known .given)
+    (at-read-numbers .read-numbers .ensures) (λ i. omega (arith, known .shared-slice-known .given i))
 
 array-read-found-if : tie.Need-array-read-found-if
 array-read-found-if c = search needs
