@@ -7,7 +7,8 @@ use mathlib.Core.Logic.{inl, inr}
 use mathlib.Core.Bool.{true}
 use lib.Dec.{lit<}
 use native.Mathlib.Omega.{arith}
-use mathlib.Core.List.{List, _++_}
+use mathlib.Core.List.{List, [], _∷_, _++_}
+use mathlib.Core.Option.{some}
 use lib.ListN.{length, getD, set, take}
 use Rattle.events.specs.declared.Event.{Event}
 use Rattle.events.specs.declared.Event.the-variants.{Open, Withdraw, Deposit, Close}
@@ -16,7 +17,7 @@ use Rattle.filing.specs.declared.Verdict.{Verdict}
 use Rattle.filing.specs.declared.Verdict.the-variants.{Accepted, Rejected, Held}
 use Rattle.filing.specs.declared.Told.{Told}
 use Rattle.filing.specs.declared.Told.the-variants.{Voted, Noted, Applied, Dropped}
-use Rattle.layout.specs.Fields.{rowOfKind, wholeOf, thenOf, widthsOf, total}
+use Rattle.layout.specs.Fields.{kindRow, rowOfKind, wholeOf, thenOf, widthsOf, total}
 use Rattle.layout.specs.Heading.{headingNumbers}
 use Rattle.layout.specs.Shapes.{padded}
 use Rattle.events.specs.Kinds.{eventKind, amountOf, eventOf}
@@ -88,44 +89,31 @@ pub record Standing (kind : ℕ) (told : Told) : Type 0 where
 abbrev pub Alone : Told → Type 0
 Alone told = (IsRejection told → ⊥) → reasonIn told ≡ 0
 
+-- a vote in a kind whose row has no reason
+short-stands : (kind : ℕ) (v : Verdict) (e : Event) (n : ℕ) → kind < 256 ^ 1 → rowOfKind entryRows kind ≡ some (kindRow kind 18 (1 ∷ 4 ∷ 2 ∷ []))
+    → toldBy kind e n 0 ≡ vote v e n 0 → Standing kind (vote v e n 0)
+short-stands kind v e n byte row told =
+    record {
+      byte = byte;
+      positive = rw row (lit< tt);
+      paired = rw row;
+      numbers = rw (row, event-is e) told;
+      fitting = rw row (event-fits e);
+      bounds = λ f. let f′ = rw row at f in (fit-head (fit-tail f′), fit-head (fit-tail (fit-tail f′)), lit< tt, lit< tt);
+      fits = λ a w b r. rw row (one (kind-fits e) (one a (one w none)));
+    }
+
 accepted-stands : (e : Event) (n : ℕ) → Standing 17 (vote Accepted e n 0)
 unfolding rowOfKind entryRows toldBy verdictBy
-accepted-stands e n =
-    record {
-      byte = lit< tt;
-      positive = lit< tt;
-      paired = refl;
-      numbers = rw (event-is e);
-      fitting = event-fits e;
-      bounds = λ f. (fit-head (fit-tail f), fit-head (fit-tail (fit-tail f)), lit< tt, lit< tt);
-      fits = λ a w b r. one (kind-fits e) (one a (one w none));
-    }
+accepted-stands e n = short-stands 17 Accepted e n (lit< tt) refl refl
 
 older-stands : (e : Event) (n : ℕ) → Standing 18 (vote Rejected e n 0)
 unfolding rowOfKind entryRows toldBy verdictBy
-older-stands e n =
-    record {
-      byte = lit< tt;
-      positive = lit< tt;
-      paired = refl;
-      numbers = rw (event-is e);
-      fitting = event-fits e;
-      bounds = λ f. (fit-head (fit-tail f), fit-head (fit-tail (fit-tail f)), lit< tt, lit< tt);
-      fits = λ a w b r. one (kind-fits e) (one a (one w none));
-    }
+older-stands e n = short-stands 18 Rejected e n (lit< tt) refl refl
 
 held-stands : (e : Event) (n : ℕ) → Standing 19 (vote Held e n 0)
 unfolding rowOfKind entryRows toldBy verdictBy
-held-stands e n =
-    record {
-      byte = lit< tt;
-      positive = lit< tt;
-      paired = refl;
-      numbers = rw (event-is e);
-      fitting = event-fits e;
-      bounds = λ f. (fit-head (fit-tail f), fit-head (fit-tail (fit-tail f)), lit< tt, lit< tt);
-      fits = λ a w b r. one (kind-fits e) (one a (one w none));
-    }
+held-stands e n = short-stands 19 Held e n (lit< tt) refl refl
 
 rejected-stands : (e : Event) (n k : ℕ) → Standing 23 (vote Rejected e n k)
 unfolding rowOfKind entryRows toldBy verdictBy
