@@ -12,7 +12,7 @@ use borrow.Author.Tests.{ltb-false, le-ltb, leb-true}
 use lib.Dec.{leb, ltb, lit≤}
 use lib.ListN.{length, length-append}
 use Rattle.rule.specs.Rule as rule
-use Rattle.rule.specs.Rule.{Rule}
+use Rattle.rule.specs.Rule.{Rule, guard}
 use Rattle.rule.specs.Outcome.{outcomes}
 use Rattle.rule.specs.Weigh.{weigh, decide}
 use Rattle.rule.specs.InOrder.{isInOrder}
@@ -23,6 +23,7 @@ use Rattle.rule.proofs.Lists.{and-left, and-right}
 use Rattle.rule.proofs.InOrder.{order-clauses}
 use Rattle.rule.proofs.Written.{step-shape}
 use Rattle.events.specs.declared.Event.{Event}
+use Rattle.events.specs.declared.Event.the-variants.{Open, Withdraw, Deposit, Close}
 use Rattle.events.specs.declared.Life.the-variants.{New}
 use Rattle.events.specs.declared.State.{State}
 use Rattle.filing.specs.declared.Filed.{Filed}
@@ -34,7 +35,7 @@ use Rattle.layout.specs.Answers.{saidOfWriting, wroteOver, refusedWith}
 use Rattle.entry.specs.Bytes.{entryRows, lengthOfTold, bytesOfEntries, wholesOf, listOf}
 use Rattle.entry.specs.Answers.{longestCall, writeOf}
 use Rattle.entry.specs.Longest.{CallFits, CallsFit, CallsRefused, fullAccount, LongestBy, LongestThereIs}
-use Rattle.entry.proofs.Shapes.{vote-length}
+use Rattle.entry.proofs.Longest.{vote-short}
 use Rattle.entry.proofs.Stored.{length-entries, wholes-append}
 
 -- at most so many entries, in at most so many bytes
@@ -49,12 +50,12 @@ within-none count bytes = record { few = omega arith; short = omega arith }
 within-more : (xs : List RuleEntry) (a b c d : ℕ) → Within xs a b → a ≤ c → b ≤ d → Within xs c d
 within-more xs a b c d p h k = record { few = omega (arith, p .few); short = omega (arith, p .short) }
 
-within-one : (x : RuleEntry) (xs : List RuleEntry) (size a b : ℕ) → lengthOfTold (entryOf x .told) ≡ size → Within xs a b → Within (x ∷ xs) (1 + a) (size + b)
+within-one : (x : RuleEntry) (xs : List RuleEntry) (size a b : ℕ) → lengthOfTold (entryOf x .told) ≤ size → Within xs a b → Within (x ∷ xs) (1 + a) (size + b)
 unfolding wholesOf
-within-one x xs size a b h p = record { few = omega (arith, p .few); short = rw h (omega (arith, p .short)) }
+within-one x xs size a b h p = record { few = omega (arith, p .few); short = omega (arith, p .short) }
 
--- one more of the same length
-within-next : (x : RuleEntry) (xs : List RuleEntry) (size n : ℕ) → lengthOfTold (entryOf x .told) ≡ size → Within xs n (size * n)
+-- one more that is no longer than the others
+within-next : (x : RuleEntry) (xs : List RuleEntry) (size n : ℕ) → lengthOfTold (entryOf x .told) ≤ size → Within xs n (size * n)
     → Within (x ∷ xs) (suc n) (size * suc n)
 within-next x xs size n h p = within-more (x ∷ xs) (1 + n) (size + size * n) (suc n) (size * suc n) (within-one x xs size n (size * n) h p) (omega arith) (rw mul-suc (omega arith))
 
@@ -65,31 +66,31 @@ within-append xs ys a b c d p q =
       short = rw (map-append, wholes-append) (omega (arith, p .short, q .short));
     }
 
--- entries of events applied, and votes
+-- entries of events applied, and votes, of which a rejection is the longest
 applied-within : (xs : List RuleEntry) → OnlyApplied xs → Within xs (length xs) (20 * length xs)
 unfolding lengthOfTold rowOfKind entryRows
 applied-within [] h = within-none 0 0
 applied-within (rule.voted t g e w ∷ xs) h = absurd h
 applied-within (rule.noted t g ∷ xs) h = absurd h
-applied-within (rule.applied t g e b ∷ xs) h = within-next (rule.applied t g e b) xs 20 (length xs) refl (applied-within xs h)
+applied-within (rule.applied t g e b ∷ xs) h = within-next (rule.applied t g e b) xs 20 (length xs) (lit≤ tt) (applied-within xs h)
 applied-within (rule.dropped t g e ∷ xs) h = absurd h
 
-decided-within : (xs : List RuleEntry) → OnlyDecided xs → Within xs (length xs) (18 * length xs)
+decided-within : (xs : List RuleEntry) → OnlyDecided xs → Within xs (length xs) (19 * length xs)
 decided-within [] h = within-none 0 0
-decided-within (rule.voted t g e w ∷ xs) h = within-next (rule.voted t g e w) xs 18 (length xs) (vote-length e (weighingIn w)) (decided-within xs (h .1))
+decided-within (rule.voted t g e w ∷ xs) h = within-next (rule.voted t g e w) xs 19 (length xs) (vote-short e (weighingIn w)) (decided-within xs (h .1))
 decided-within (rule.noted t g ∷ xs) h = absurd h
 decided-within (rule.applied t g e b ∷ xs) h = absurd h
 decided-within (rule.dropped t g e ∷ xs) h = absurd h
 
 -- those behind a call's own
 following-within : (most-applied most-decided : ℕ) (xs : List RuleEntry) → Following most-applied most-decided xs
-    → Within xs (most-applied + most-decided) (20 * most-applied + 18 * most-decided)
+    → Within xs (most-applied + most-decided) (20 * most-applied + 19 * most-decided)
 following-within p d xs f =
     let first = f .applications in
     let then = f .decisions in
     rw (f .split)
-    (within-more (first ++ then) (length first + length then) (20 * length first + 18 * length then) (p + d) (20 * p + 18 * d)
-    (within-append first then (length first) (20 * length first) (length then) (18 * length then) (applied-within first (f .only-applied)) (decided-within then (f .only-decided)))
+    (within-more (first ++ then) (length first + length then) (20 * length first + 19 * length then) (p + d) (20 * p + 19 * d)
+    (within-append first then (length first) (20 * length first) (length then) (19 * length then) (applied-within first (f .only-applied)) (decided-within then (f .only-decided)))
     (omega (arith, f .few, f .fewDecided)) (omega (arith, f .few, f .fewDecided)))
 
 -- a message that is taken, by the shape of what it writes
@@ -97,17 +98,17 @@ writes-within : (n k : ℕ) (m : rule.Message Filed Event) (xs : List RuleEntry)
 unfolding lengthOfTold rowOfKind entryRows
 writes-within n k (rule.request t g e) xs p h s =
     let own = rule.voted t g e (s .0) in
-    rw (s .1) (within-more (own ∷ []) (1 + 0) (18 + 0) most longestCall (within-one own [] 18 0 0 (vote-length e (weighingIn (s .0))) (within-none 0 0)) (lit≤ tt) (lit≤ tt))
+    rw (s .1) (within-more (own ∷ []) (1 + 0) (19 + 0) most longestCall (within-one own [] 19 0 0 (vote-short e (weighingIn (s .0))) (within-none 0 0)) (lit≤ tt) (lit≤ tt))
 writes-within n k (rule.commit t g) xs p h s =
     rw (s .1)
-    (within-more (rule.noted t g ∷ s .0) (1 + (n + k)) (11 + (20 * n + 18 * k)) most longestCall
-    (within-one (rule.noted t g) (s .0) 11 (n + k) (20 * n + 18 * k) refl (following-within n k (s .0) (s .2))) (omega arith) (omega arith))
+    (within-more (rule.noted t g ∷ s .0) (1 + (n + k)) (11 + (20 * n + 19 * k)) most longestCall
+    (within-one (rule.noted t g) (s .0) 11 (n + k) (20 * n + 19 * k) (lit≤ tt) (following-within n k (s .0) (s .2))) (omega arith) (omega arith))
 writes-within n k (rule.abort t g) xs p h s =
     let applied = s .3 in
     let decided = s .4 in
     rw (s .5)
-    (within-more (rule.dropped t (s .0) (s .1) ∷ s .2) (1 + (applied + decided)) (16 + (20 * applied + 18 * decided)) most longestCall
-    (within-one (rule.dropped t (s .0) (s .1)) (s .2) 16 (applied + decided) (20 * applied + 18 * decided) refl (following-within applied decided (s .2) (s .6)))
+    (within-more (rule.dropped t (s .0) (s .1) ∷ s .2) (1 + (applied + decided)) (16 + (20 * applied + 19 * decided)) most longestCall
+    (within-one (rule.dropped t (s .0) (s .1)) (s .2) 16 (applied + decided) (20 * applied + 19 * decided) (lit≤ tt) (following-within applied decided (s .2) (s .6)))
     (omega (arith, s .7, s .8, s .9)) (omega (arith, s .7, s .8, s .9)))
 
 -- the entries of a call in their places, and without them
@@ -169,11 +170,17 @@ longest-by R o e =
     let xs = call.written (call.call R fullAccount (rule.commit 1 blankFiled) .answer) in
     record { ordered = o; bytes = λ account. rw (listed xs) (length-entries account (map entryOf xs) ∙ e) }
 
--- a rule whose events are always allowed and change nothing
+-- a rule that has too few steps for every withdrawal and allows all else, and whose events change nothing
+abbrev reasonIdle : Event → State → Option ℕ
+reasonIdle (Open a) s = none
+reasonIdle (Withdraw a) s = some 3
+reasonIdle (Deposit a) s = none
+reasonIdle Close s = none
+
 abbrev idle : Rule State Event ℕ
 idle =
     record {
-      guard = λ e s. true;
+      reason = reasonIdle;
       effect = λ e s. s;
       fresh = record { life = New; balance = 0 };
       shown = λ (s : State). s .balance;
@@ -183,5 +190,5 @@ idle =
     }
 
 pub longest-there-is : LongestThereIs
-unfolding isInOrder outcomes weigh decide call.call settle committing wholesOf lengthOfTold rowOfKind entryRows
+unfolding guard isInOrder outcomes weigh decide call.call settle committing wholesOf lengthOfTold rowOfKind entryRows
 longest-there-is = record { by = idle; progress = refl; held = refl; longest = longest-by idle refl refl }

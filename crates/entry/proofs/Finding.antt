@@ -4,10 +4,11 @@
 use Prim.Native.Nat.{ℕ, _<_}
 use native.Mathlib.Omega.{arith}
 use mathlib.Core.Path.{_≡_, refl, ap, ap₂, sym, _∙_}
+use mathlib.Core.Logic.{inl, inr}
 use mathlib.Core.Bool.{Bool, true, false, cond, not, _&&_, _||_, false≢true}
 use mathlib.Core.List.{List}
 use borrow.Author.Tests.{ltb-true, ltb-false}
-use lib.Dec.{eqb, leb, ltb}
+use lib.Dec.{eqb, leb, ltb, lit<}
 use lib.ListN.{length, getD}
 use Rattle.events.specs.declared.Event.{Event}
 use Rattle.events.specs.declared.Event.the-variants.{Open, Withdraw, Deposit, Close}
@@ -26,11 +27,11 @@ use Rattle.layout.proofs.Plain.{numbers-plain}
 use Rattle.layout.proofs.Heading.{filed-plain}
 use Rattle.entry.specs.declared.EntryReading.{EntryReading}
 use Rattle.entry.specs.declared.EntryReading.the-variants.{Found, Nothing}
-use Rattle.entry.specs.Bytes.{entryRows, kindOf, verdictBy, toldBy, lengthOfTold}
+use Rattle.entry.specs.Bytes.{entryRows, verdictBy, toldBy}
 use Rattle.entry.specs.Answers.{saidOfEntry, eventFits, readOf}
-use Rattle.entry.specs.Plain.{vote, lengthIn, EventStands, VoteStands, Stands, Begins, ReaderFinds, kindLength, noEntry, nothing, ReaderFindsNone}
-use Rattle.entry.proofs.Shapes.{shaped, event-fits}
-use Rattle.entry.proofs.Reading.{numberAfter, entryAt, fits-read, read-unknown, read-short, read-account, read-fitting}
+use Rattle.entry.specs.Plain.{vote, lengthAs, EventStands, VoteStands, Stands, Begins, ReaderFinds, kindLength, noEntry, nothing, ReaderFindsNone}
+use Rattle.entry.proofs.Shapes.{event-fits}
+use Rattle.entry.proofs.Reading.{numberAfter, reasonAfter, entryAt, fits-read, told-read, read-unknown, read-short, read-account, read-fitting}
 use Rattle.entry.proofs.Inverse.{event-back, taken-of}
 use Rattle.entry.proofs.Refusals.{readings-apart}
 use Rattle.entry.proofs.Plain.{lengths-plain}
@@ -61,62 +62,74 @@ event-read bytes f =
     let b = event-back (numberAt bytes 11 1) (numberAt bytes 12 4) f in
     event-stands bytes (eventAt bytes) (sym (numbers-plain bytes 11 0 .read1) ∙ sym (b .0), sym (numbers-plain bytes 12 0 .read4) ∙ sym (b .1))
 
--- what the bytes' kind tells stands in them, and is as long as the kind says
+-- what the bytes' kind tells
+abbrev toldAt : (bytes : List ℕ) (kind : ℕ) → Told
+toldAt bytes kind = toldBy kind (eventAt bytes) (numberAfter bytes kind) (reasonAfter bytes kind)
+
+-- stands in them, and is as long as the kind says
 module _ (bytes : List ℕ) (kind : ℕ) (p : 0 < wholeOf (rowOfKind entryRows kind)) where
-  stands-by : kind ≡ numberAt bytes 0 1 → fitsAt bytes kind ≡ true → Stands bytes (toldBy kind (eventAt bytes) (numberAfter bytes kind))
+  stands-by : kind ≡ numberAt bytes 0 1 → fitsAt bytes kind ≡ true → Stands bytes (toldAt bytes kind)
   unfolding rowOfKind entryRows verdictBy toldBy
   stands-by e f =
       let first : (k : ℕ) → k ≡ numberAt bytes 0 1 → getD bytes 0 0 ≡ k = λ k e. sym (numbers-plain bytes 0 0 .read1) ∙ sym e in
       let two = sym (numbers-plain bytes 16 0 .read2) in
       let four = sym (numbers-plain bytes 16 0 .read4) in
+      let last = sym (numbers-plain bytes 18 0 .read1) in
       present
-      (λ (k : ℕ). k ≡ numberAt bytes 0 1 → fitsAt bytes k ≡ true → Stands bytes (toldBy k (eventAt bytes) (numberAfter bytes k)))
+      (λ (k : ℕ). k ≡ numberAt bytes 0 1 → fitsAt bytes k ≡ true → Stands bytes (toldAt bytes k))
       entryRows kind (
-        (λ e f. (first 17 e, event-read bytes f, two)),
+        (λ e f. ((first 17 e, refl), event-read bytes f, two)),
         (
-          (λ e f. (first 18 e, event-read bytes f, two)),
+          (λ e f. (inl (first 18 e, refl), event-read bytes f, two)),
           (
-            (λ e f. (first 19 e, event-read bytes f, two)),
-            ((λ e f. first 20 e), ((λ e f. (first 21 e, event-read bytes f, four)), ((λ e f. (first 22 e, event-read bytes f)), tt))),
+            (λ e f. ((first 19 e, refl), event-read bytes f, two)),
+            (
+              (λ e f. first 20 e),
+              (
+                (λ e f. (first 21 e, event-read bytes f, four)),
+                ((λ e f. (first 22 e, event-read bytes f)), ((λ e f. (inr (first 23 e, last), event-read bytes f, two)), tt)),
+              ),
+            ),
           ),
         ),
       )
       p e f
 
-  length-by : wholeOf (rowOfKind entryRows kind) ≡ lengthIn (toldBy kind (eventAt bytes) (numberAfter bytes kind))
-  unfolding rowOfKind entryRows toldBy
+  length-by : wholeOf (rowOfKind entryRows kind) ≡ lengthAs kind (toldAt bytes kind)
+  unfolding rowOfKind entryRows verdictBy toldBy
   length-by =
       present
-      (λ (k : ℕ). wholeOf (rowOfKind entryRows k) ≡ lengthIn (toldBy k (eventAt bytes) (numberAfter bytes k)))
-      entryRows kind (refl, (refl, (refl, (refl, (refl, (refl, tt)))))) p
+      (λ (k : ℕ). wholeOf (rowOfKind entryRows k) ≡ lengthAs k (toldAt bytes k))
+      entryRows kind (refl, (refl, (refl, (refl, (refl, (refl, (refl, tt))))))) p
 
 -- what was found stands at the beginning
-found-begins : (bytes : List ℕ) (e : Entry) (account whole : ℕ) → readOf bytes ≡ Found e account whole → Begins bytes e account whole
+found-begins : (bytes : List ℕ) (e : Entry) (kind account whole : ℕ) → readOf bytes ≡ Found e kind account whole → Begins bytes e kind account whole
 unfolding numbersAt
-found-begins bytes e account whole r =
-    let kind = numberAt bytes 0 1 in
+found-begins bytes e kind account whole r =
     let n = numbers-plain bytes in
-    let t = taken-of bytes account e whole r in
+    let t₀ = taken-of bytes kind account e whole r in
+    let k : numberAt bytes 0 1 ≡ kind = t₀ .kind′ in
+    let t = rw k at t₀ in
     let f : fitsAt bytes kind ≡ true = sym (fits-read bytes kind (t .positive)) ∙ t .fitting in
-    let q = read-fitting bytes kind (wholeOf (rowOfKind entryRows kind)) refl refl (λ z. omega (arith, t .positive)) (t .enough) (t .known) in
-    let same : Found (entryAt bytes kind) (numberAt bytes 5 2) (wholeOf (rowOfKind entryRows kind)) ≡ Found e account whole = sym (rw f at q) ∙ r in
-    let entry : entryAt bytes kind ≡ e = cc same in
-    let told : toldBy kind (eventAt bytes) (numberAfter bytes kind) ≡ e .told = ap (λ (x : Entry). x .told) entry in
+    let entry : entryAt bytes kind ≡ e = sym (told-read bytes kind (t .positive) (sym k)) ∙ t .entry in
+    let told : toldAt bytes kind ≡ e .told = ap (λ (x : Entry). x .told) entry in
     record {
-      stands = rw told at (stands-by bytes kind (t .positive) refl f);
+      kind′ = sym (n 0 0 .read1) ∙ k;
+      stands = rw told at (stands-by bytes kind (t .positive) (sym k) f);
       transaction = sym (n 1 0 .read4) ∙ ap (λ (x : Entry). x .transaction) entry;
       account′ = sym (n 5 0 .read2) ∙ t .account′;
       known = rw (n 5 0 .read2) at (t .known);
       filed = sym (filed-plain bytes) ∙ ap (λ (x : Entry). x .filed) entry;
-      length′ = sym (t .length′) ∙ length-by bytes kind (t .positive) ∙ ap lengthIn told;
+      length′ = sym (t .length′) ∙ length-by bytes kind (t .positive) ∙ ap (lengthAs kind) told;
       enough = rw (t .length′) at (t .enough);
     }
 
--- what stands in the bytes is told by its kind, and fits
-record Parts (bytes : List ℕ) (told : Told) : Type 0 where
-  kind : getD bytes 0 0 ≡ kindOf told
-  told′ : toldBy (kindOf told) (eventAt bytes) (numberAfter bytes (kindOf told)) ≡ told
-  fitting : fitsAt bytes (kindOf told) ≡ true
+-- what stands in the bytes is told by their kind, fits, and is as long as the kind says
+record Parts (bytes : List ℕ) (kind : ℕ) (told : Told) : Type 0 where
+  told′ : toldAt bytes kind ≡ told
+  fitting : fitsAt bytes kind ≡ true
+  whole : wholeOf (rowOfKind entryRows kind) ≡ lengthAs kind told
+  positive : 0 < wholeOf (rowOfKind entryRows kind)
 
 event-at : (bytes : List ℕ) (e : Event) → EventStands bytes e → (eventAt bytes ≡ e) × (eventFits (numberAt bytes 11 1) (numberAt bytes 12 4) ≡ true)
 event-at bytes e s =
@@ -126,47 +139,49 @@ event-at bytes e s =
     rw (k, a) (event-is e, event-fits e)
 
 -- a vote by its verdict
-vote-parts : (bytes : List ℕ) (v : Verdict) (n : ℕ) (e : Event) → VoteStands bytes v → eventAt bytes ≡ e → numberAt bytes 16 2 ≡ n
-    → eventFits (numberAt bytes 11 1) (numberAt bytes 12 4) ≡ true → Parts bytes (vote v e n)
-unfolding verdictBy toldBy
-vote-parts bytes Accepted n e s p q f = record { kind = s; told′ = ap₂ (vote Accepted) p q; fitting = f }
-vote-parts bytes Rejected n e s p q f = record { kind = s; told′ = ap₂ (vote Rejected) p q; fitting = f }
-vote-parts bytes Held n e s p q f = record { kind = s; told′ = ap₂ (vote Held) p q; fitting = f }
+module _ (bytes : List ℕ) {kind : ℕ} (first : getD bytes 0 0 ≡ kind) where
+  vote-parts : (v : Verdict) {e : Event} {n : ℕ} (k : ℕ) → VoteStands bytes v k → eventAt bytes ≡ e → numberAt bytes 16 2 ≡ n
+      → eventFits (numberAt bytes 11 1) (numberAt bytes 12 4) ≡ true → Parts bytes kind (vote v e n k)
+  unfolding rowOfKind entryRows verdictBy toldBy
+  vote-parts Accepted k s p q f = rw (← first, s .0, s .1) (record { told′ = rw (p, q); fitting = f; whole = refl; positive = lit< tt })
+  vote-parts Rejected k (inl s) p q f = rw (← first, s .0, s .1) (record { told′ = rw (p, q); fitting = f; whole = refl; positive = lit< tt })
+  vote-parts Rejected k (inr s) p q f =
+      rw (← first, s .0) (record { told′ = rw (p, q, numbers-plain bytes 18 0 .read1, s .1); fitting = f; whole = refl; positive = lit< tt })
+  vote-parts Held k s p q f = rw (← first, s .0, s .1) (record { told′ = rw (p, q); fitting = f; whole = refl; positive = lit< tt })
 
-parts : (bytes : List ℕ) (told : Told) → Stands bytes told → Parts bytes told
-unfolding toldBy
-parts bytes (Voted e w) s =
-    let v = event-at bytes e (s .1) in
-    let weighed : numberAt bytes 16 2 ≡ w .weighed = numbers-plain bytes 16 0 .read2 ∙ s .2 in
-    vote-parts bytes (w .verdict) (w .weighed) e (s .0) (v .0) weighed (v .1)
-parts bytes Noted s = record { kind = s; told′ = refl; fitting = refl }
-parts bytes (Applied e n) s =
-    let v = event-at bytes e (s .1) in record { kind = s .0; told′ = ap₂ Applied (v .0) (numbers-plain bytes 16 0 .read4 ∙ s .2); fitting = v .1 }
-parts bytes (Dropped e) s = let v = event-at bytes e (s .1) in record { kind = s .0; told′ = ap Dropped (v .0); fitting = v .1 }
+  parts : (told : Told) → Stands bytes told → Parts bytes kind told
+  unfolding rowOfKind entryRows toldBy
+  parts (Voted e w) s =
+      let v = event-at bytes e (s .1) in
+      let weighed : numberAt bytes 16 2 ≡ w .weighed = numbers-plain bytes 16 0 .read2 ∙ s .2 in
+      vote-parts (w .verdict) (w .reason) (s .0) (v .0) weighed (v .1)
+  parts Noted s = rw (← first, s) (record { told′ = refl; fitting = refl; whole = refl; positive = lit< tt })
+  parts (Applied e n) s =
+      let v = event-at bytes e (s .1) in
+      rw (← first, s .0) (record { told′ = ap₂ Applied (v .0) (numbers-plain bytes 16 0 .read4 ∙ s .2); fitting = v .1; whole = refl; positive = lit< tt })
+  parts (Dropped e) s =
+      let v = event-at bytes e (s .1) in rw (← first, s .0) (record { told′ = ap Dropped (v .0); fitting = v .1; whole = refl; positive = lit< tt })
 
-begins-found : (bytes : List ℕ) (e : Entry) (account whole : ℕ) → Begins bytes e account whole → readOf bytes ≡ Found e account whole
-unfolding lengthOfTold
-begins-found bytes e account whole b =
-    let told = e .told in
-    let kind = kindOf told in
+begins-found : (bytes : List ℕ) (e : Entry) (kind account whole : ℕ) → Begins bytes e kind account whole → readOf bytes ≡ Found e kind account whole
+begins-found bytes e kind account whole b =
     let n = numbers-plain bytes in
-    let q = parts bytes told (b .stands) in
-    let w : whole ≡ lengthOfTold told = b .length′ ∙ sym (shaped told .length′) in
-    let z : 0 < whole = rw (w, ← shaped told .whole) (omega arith) in
+    let q = parts bytes (b .kind′) (e .told) (b .stands) in
+    let w : whole ≡ wholeOf (rowOfKind entryRows kind) = b .length′ ∙ sym (q .whole) in
+    let z : 0 < whole = rw w (q .positive) in
     let entry : entryAt bytes kind ≡ e = rw (n 1 0 .read4, filed-plain bytes, b .transaction, b .filed, q .told′) in
-    read-fitting bytes kind whole (sym (q .kind) ∙ sym (n 0 0 .read1)) w (λ y. omega arith) (b .enough) (rw (n 5 0 .read2) (b .known))
+    read-fitting bytes kind whole (sym (b .kind′) ∙ sym (n 0 0 .read1)) w (λ y. omega arith) (b .enough) (rw (n 5 0 .read2) (b .known))
     ∙ rw (q .fitting, entry, n 5 0 .read2, b .account′)
 
 pub reader-finds : ReaderFinds
-reader-finds bytes e account whole = (
-  (λ g. found-begins bytes e account whole (readings-apart (readOf bytes) (Found e account whole) g)),
-  (λ b. ap saidOfEntry (begins-found bytes e account whole b)),
+reader-finds bytes e kind account whole = (
+  (λ g. found-begins bytes e kind account whole (readings-apart (readOf bytes) (Found e kind account whole) g)),
+  (λ b. ap saidOfEntry (begins-found bytes e kind account whole b)),
 )
 
 -- ---- where nothing is found
 
 abbrev isNothing : EntryReading → Bool
-isNothing (Found e account whole) = false
+isNothing (Found e kind account whole) = false
 isNothing Nothing = true
 
 -- what follows the heading does not fit
@@ -178,14 +193,15 @@ unfit false true false c x h = h
 unfit false true true true x h = h
 unfit false true true false x h = refl
 
-positive : (a b c : Bool) → 0 < cond a 18 (cond b 11 (cond c 20 16))
-positive true b c = omega arith
-positive false true c = omega arith
-positive false false true = omega arith
-positive false false false = omega arith
+positive : (a b c d : Bool) → 0 < cond a 18 (cond b 11 (cond c 20 (cond d 16 19)))
+positive true b c d = omega arith
+positive false true c d = omega arith
+positive false false true d = omega arith
+positive false false false true = omega arith
+positive false false false false = omega arith
 
 none-by : (bytes : List ℕ) → isNothing (readOf bytes) ≡ noEntry bytes
-none-by bytes = go (leb 17 kind && leb kind 22) (ltb (length bytes) (kindLength kind)) (ltb 15 (twoAt bytes 5)) refl refl refl
+none-by bytes = go (leb 17 kind && leb kind 23) (ltb (length bytes) (kindLength kind)) (ltb 15 (twoAt bytes 5)) refl refl refl
   where
     kind : ℕ
     kind = getD bytes 0 0
@@ -194,12 +210,12 @@ none-by bytes = go (leb 17 kind && leb kind 22) (ltb (length bytes) (kindLength 
     k = sym (numbers-plain bytes 0 0 .read1)
 
     some-bytes : 0 < kindLength kind
-    some-bytes = positive (leb kind 19) (eqb kind 20) (eqb kind 21)
+    some-bytes = positive (leb kind 19) (eqb kind 20) (eqb kind 21) (eqb kind 22)
 
-    whole : (a : Bool) → leb 17 kind && leb kind 22 ≡ a → cond a (kindLength kind) 0 ≡ wholeOf (rowOfKind entryRows kind)
+    whole : (a : Bool) → leb 17 kind && leb kind 23 ≡ a → cond a (kindLength kind) 0 ≡ wholeOf (rowOfKind entryRows kind)
     whole a p = sym (rw p at (lengths-plain kind))
 
-    go : (a b d : Bool) → leb 17 kind && leb kind 22 ≡ a → ltb (length bytes) (kindLength kind) ≡ b → ltb 15 (twoAt bytes 5) ≡ d
+    go : (a b d : Bool) → leb 17 kind && leb kind 23 ≡ a → ltb (length bytes) (kindLength kind) ≡ b → ltb 15 (twoAt bytes 5) ≡ d
         → isNothing (readOf bytes)
         ≡ (not a || (b || (d || (not (eqb kind 20)
         && (not (leb 1 (getD bytes 11 0) && leb (getD bytes 11 0) 4) || (eqb (getD bytes 11 0) 4 && not (eqb (fourAt bytes 12) 0)))))))
@@ -209,7 +225,7 @@ none-by bytes = go (leb 17 kind && leb kind 22) (ltb (length bytes) (kindLength 
         rw (read-account bytes kind (kindLength kind) k (whole true p) (λ n. omega (arith, some-bytes)) (ltb-false (length bytes) (kindLength kind) q) (rw (numbers-plain bytes 5 0 .read2) (ltb-true 15 (twoAt bytes 5) r)))
     go true false false p q r =
         let e = read-fitting bytes kind (kindLength kind) k (whole true p) (λ n. omega (arith, some-bytes)) (ltb-false (length bytes) (kindLength kind) q) (rw (numbers-plain bytes 5 0 .read2) (ltb-false 15 (twoAt bytes 5) r)) in
-        let found = Found (entryAt bytes kind) (numberAt bytes 5 2) (kindLength kind) in
+        let found = Found (entryAt bytes kind) kind (numberAt bytes 5 2) (kindLength kind) in
         let event = numberAt bytes 11 1 in
         rw (e, ← numbers-plain bytes 11 0 .read1, ← numbers-plain bytes 12 0 .read4)
         (unfit (eqb kind 20) (leb 1 event && leb event 4) (eqb event 4) (eqb (numberAt bytes 12 4) 0) found refl)
@@ -221,5 +237,5 @@ reader-finds-none bytes = (
 )
   where
     go : (x : EntryReading) → isNothing x ≡ true → saidOfEntry x ≡ nothing
-    go (Found e account whole) h = absurd (false≢true h)
+    go (Found e kind account whole) h = absurd (false≢true h)
     go Nothing h = refl

@@ -4,19 +4,18 @@ use Prim.Native.Nat.{ℕ}
 use native.Mathlib.Omega.{arith}
 use mathlib.Core.Path.{_≡_, refl, ap}
 use mathlib.Core.Bool.{Bool, true, false, cond}
-use mathlib.Core.List.{List, [], _∷_, _++_, map}
-use mathlib.Core.Option.{none, some}
+use mathlib.Core.List.{List, [], _∷_, _++_}
+use mathlib.Core.Option.{none}
 use lib.Dec.{ltb}
 use lib.ListN.{length, take, drop}
 use lib.Seq.{take-at}
-use Rattle.filing.specs.declared.Entry.{Entry}
 use Rattle.layout.specs.Answers as Writing′
 use Rattle.entry.specs.Bytes.{bytesOfEntry, bytesOfEntries, listOf}
 use Rattle.entry.specs.Answers.{longestCall, writeOf}
 use Rattle.entry.specs.Forms.{EntryReadingForm, EntriesTogether, WriterLeaves}
 
 pub entry-reading-form : EntryReadingForm
-entry-reading-form = record { found = λ e a n. refl; nothing = refl }
+entry-reading-form = record { found = λ e k a n. refl; nothing = refl }
 
 pub entries-together : EntriesTogether
 unfolding bytesOfEntries

@@ -1,4 +1,4 @@
--- The whole length of the kinds of entry: 17 to 19 by their range, and those that are none of 17 to 22.
+-- The whole length of the kinds of entry: 17 to 19 by their range, and those that are none of 17 to 23.
 -- Assumes nothing.
 use Prim.Native.Nat.{ℕ, _≤_, _<_}
 use native.Mathlib.Omega.{arith}
@@ -27,6 +27,6 @@ pub below-kinds : (kind : ℕ) → kind < 17 → wholeOf (rowOfKind entryRows ki
 unfolding entryRows
 below-kinds kind h = rw (absent entryRows kind (omega arith))
 
-pub above-kinds : (kind : ℕ) → 19 < kind → (kind ≡ 20 → ⊥) → (kind ≡ 21 → ⊥) → (kind ≡ 22 → ⊥) → wholeOf (rowOfKind entryRows kind) ≡ 0
+pub above-kinds : (kind : ℕ) → 23 < kind → wholeOf (rowOfKind entryRows kind) ≡ 0
 unfolding entryRows
-above-kinds kind h n m o = rw (absent entryRows kind (omega arith))
+above-kinds kind h = rw (absent entryRows kind (omega arith))

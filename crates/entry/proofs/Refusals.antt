@@ -44,11 +44,12 @@ writer-stays entries account buffer =
     (λ a. cond-stays (ltb (length buffer) (length bytes)) 4 buffer (wroteOver bytes buffer) (λ b. wrote-stays bytes buffer (ltb-false (length buffer) (length bytes) b)))
 
 pub readings-apart : ReadingsApart
-readings-apart (Found e a n) (Found f b m) q =
+readings-apart (Found e k a n) (Found f j b m) q =
     let x = ap (λ (g : SaidOfEntry). g .entry) q in
+    let w = ap (λ (g : SaidOfEntry). g .kind) q in
     let y = ap (λ (g : SaidOfEntry). g .account) q in
     let z = ap (λ (g : SaidOfEntry). g .length′) q in
     cc
-readings-apart (Found e a n) Nothing q = let x = ap (λ (g : SaidOfEntry). g .entry) q in let z : _≡_ {A = ℕ} 0 1 = cc in absurd (omega arith)
-readings-apart Nothing (Found e a n) q = let x = ap (λ (g : SaidOfEntry). g .entry) q in let z : _≡_ {A = ℕ} 0 1 = cc in absurd (omega arith)
+readings-apart (Found e k a n) Nothing q = let x = ap (λ (g : SaidOfEntry). g .entry) q in let z : _≡_ {A = ℕ} 0 1 = cc in absurd (omega arith)
+readings-apart Nothing (Found e k a n) q = let x = ap (λ (g : SaidOfEntry). g .entry) q in let z : _≡_ {A = ℕ} 0 1 = cc in absurd (omega arith)
 readings-apart Nothing Nothing q = refl

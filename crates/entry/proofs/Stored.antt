@@ -24,11 +24,11 @@ use Rattle.layout.proofs.Stores.{sets-more}
 use Rattle.layout.proofs.Fields.{length-written}
 use Rattle.layout.proofs.Reading.{shape-written}
 use Rattle.layout.proofs.Tables.{longest}
-use Rattle.entry.specs.Bytes.{entryRows, kindOf, numbersOf, bytesOfEntry, lengthOfTold, bytesOfEntries, wholesOf}
+use Rattle.entry.specs.Bytes.{entryRows, kindOf, numbersOf, bytesAs, bytesOfEntry, lengthOfTold, bytesOfEntries, wholesOf}
 use Rattle.entry.proofs.Shapes.{rows-hold, shaped}
 
 pub length-entry : (account : ℕ) (e : Entry) → length (bytesOfEntry account e) ≡ lengthOfTold (e .told)
-unfolding bytesOfEntry
+unfolding bytesOfEntry bytesAs
 length-entry account e =
     length-written (widthsOf (rowOfKind entryRows (kindOf (e .told)))) (numbersOf account e) (rw (shaped (e .told) .paired)) ∙ shaped (e .told) .whole
 
@@ -49,7 +49,7 @@ wholes-append (x ∷ xs) ys = rw (add-assoc, wholes-append xs ys)
 
 -- stored by the row of its kind, places behind it and all, an entry is its bytes
 pub row-bytes : (account : ℕ) (e : Entry) → written (map bytesIn (shapeOf (rowOfKind entryRows (kindOf (e .told))) .widths)) (padded (numbersOf account e)) ≡ bytesOfEntry account e
-unfolding bytesOfEntry lengthOfTold
+unfolding bytesOfEntry bytesAs lengthOfTold
 row-bytes account e =
     let told = e .told in
     let whole : 0 < lengthOfTold told = rw (← shaped told .whole) (omega arith) in
@@ -67,7 +67,7 @@ wholes-short (e ∷ es) = rw mul-suc (omega (arith, short-told (e .told), wholes
 
 -- what the code's arrays give past their end, where nothing looks
 abbrev pub noEntry : Entry
-noEntry = record { transaction = 0; filed = blankFiled; told = Voted (Open 0) (record { verdict = Accepted; weighed = 0 }) }
+noEntry = record { transaction = 0; filed = blankFiled; told = Voted (Open 0) (record { verdict = Accepted; weighed = 0; reason = 0 }) }
 
 -- one entry more
 module _ (places : List Entry) (i : ℕ) (h : i < length places) where

@@ -1,4 +1,5 @@
 // The table of entry kinds, and an entry as a row of numbers.
+ghost use Prim.Native.Nat.{_<_};
 ghost use mathlib.Core.Path.{_≡_};
 ghost use Rattle.layout.specs.Fields.{rowOfKind};
 ghost use Rattle.layout.specs.Shapes.{padded, shapeOf};

@@ -1,5 +1,7 @@
 // The reader of one entry.
+ghost use Prim.Native.Nat.{_<_};
 ghost use mathlib.Core.Path.{_≡_};
+ghost use lib.ListN.{getD};
 ghost use Rattle.events.specs.Kinds.{eventOf};
 ghost use Rattle.entry.specs.Bytes.{entryBy};
 ghost use Rattle.entry.specs.Answers.{eventFits, foundIf, readOf};
@@ -53,8 +55,9 @@ fn event_fits(kind: u32, amount: u32) -> bool
     (1 <= kind) & (kind <= 4) & (!(kind == 4) | (amount == 0))
 }
 
-// The entry of that kind and these numbers.
+// The entry of that kind and these numbers, of which the reason is a byte.
 fn entry_of(kind: u8, numbers: [u32; layout::FIELDS]) -> Entry
+    requires { ⌜ getD numbers 7 0 < 256 ⌝ }
     ensures { λ r. ⌜ r ≡ entryBy kind numbers ⌝ }
 {
     Entry {

@@ -23,6 +23,9 @@ array-write-numbers-2 c = search needs
 array-write-numbers-3 : tie.Need-array-write-numbers-3
 array-write-numbers-3 c = search needs
 
+array-write-numbers-4 : tie.Need-array-write-numbers-4
+array-write-numbers-4 c = search needs
+
 returns : tie.Need-returns
 returns c =
     let at-told-kind = c .before in
@@ -41,4 +44,5 @@ numbers-of-spec =
     array-write-numbers
     array-write-numbers-2
     array-write-numbers-3
+    array-write-numbers-4
     returns)

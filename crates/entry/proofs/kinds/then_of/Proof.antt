@@ -7,6 +7,9 @@ use Rattle.entry.proofs.kinds.then_of.Tie as tie
 enum-known-told : tie.Need-enum-known-told
 enum-known-told c = search needs
 
+reason-only-requires : tie.Need-reason-only-requires
+reason-only-requires c κs = search needs
+
 with-event-requires : tie.Need-with-event-requires
 with-event-requires c κs = search needs
 
@@ -26,7 +29,9 @@ with-event-requires-3 : tie.Need-with-event-requires-3
 with-event-requires-3 c κs = search needs
 
 returns : tie.Need-returns
-returns c = rw (c .before .before .told .given .1) (c .with-event .ensures)
+returns c =
+    let at-reason-only = c .before in
+    rw (at-reason-only .before .before .told .given .1, ← at-reason-only .reason-only .ensures) (c .with-event .ensures)
 
 returns-2 : tie.Need-returns-2
 returns-2 c = rw (c .enum-told .given .1)
@@ -42,6 +47,7 @@ then-of-spec =
     tie.close
     (tie.spec
     enum-known-told
+    reason-only-requires
     with-event-requires
     enum-told
     enum-known-told-2

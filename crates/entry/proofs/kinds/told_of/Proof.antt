@@ -9,6 +9,9 @@ use Rattle.entry.proofs.kinds.told_of.Tie as tie
 verdict-of-requires : tie.Need-verdict-of-requires
 verdict-of-requires c κs = search needs
 
+cast-t7 : tie.Need-cast-t7
+cast-t7 c = search needs
+
 returns : tie.Need-returns
 unfolding toldBy
 returns c = rw (c .match .keys1)
@@ -29,4 +32,4 @@ returns-4 c =
     rw (ne-eqb k 20 (r .0 .0 .1), ne-eqb k 21 (r .0 .1), ne-eqb k 22 (r .1), c .verdict-of .ensures)
 
 pub told-of-spec : {M : Type 1} → statement M
-told-of-spec = tie.close (tie.spec verdict-of-requires returns returns-2 returns-3 returns-4)
+told-of-spec = tie.close (tie.spec verdict-of-requires cast-t7 returns returns-2 returns-3 returns-4)

@@ -17,7 +17,7 @@ returns-3 : tie.Need-returns-3
 unfolding verdictBy
 returns-3 c =
     let k = c .before .args .kind in
-    rw (ne-eqb k 17 (c .match .rest .0 .1), ne-eqb k 18 (c .match .rest .1))
+    rw (ne-eqb k 17 (c .match .rest .0 .1), ne-eqb k 19 (c .match .rest .1))
 
 pub verdict-of-spec : {M : Type 1} → statement M
 verdict-of-spec = tie.close (tie.spec returns returns-2 returns-3)

@@ -7,8 +7,8 @@ use Rattle.entry.proofs.kinds.with_event.Tie as tie
 kind-requires : tie.Need-kind-requires
 kind-requires c κs = search needs
 
-cast-t4 : tie.Need-cast-t4
-cast-t4 c = search needs
+cast-t5 : tie.Need-cast-t5
+cast-t5 c = search needs
 
 amount-requires : tie.Need-amount-requires
 amount-requires c κs = search needs
@@ -17,4 +17,4 @@ returns : tie.Need-returns
 returns c = rw (c .amount .ensures, c .before .kind .ensures)
 
 pub with-event-spec : {M : Type 1} → statement M
-with-event-spec = tie.close (tie.spec kind-requires cast-t4 amount-requires returns)
+with-event-spec = tie.close (tie.spec kind-requires cast-t5 amount-requires returns)

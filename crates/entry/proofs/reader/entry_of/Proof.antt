@@ -22,6 +22,9 @@ event-of-requires c κs = search needs
 array-read-told-of : tie.Need-array-read-told-of
 array-read-told-of c = search needs
 
+array-read-told-of-2 : tie.Need-array-read-told-of-2
+array-read-told-of-2 c = search needs
+
 told-of-requires : tie.Need-told-of-requires
 told-of-requires c κs = search needs
 
@@ -40,5 +43,6 @@ entry-of-spec =
     array-read-event-of-2
     event-of-requires
     array-read-told-of
+    array-read-told-of-2
     told-of-requires
     returns)

@@ -1,7 +1,8 @@
 -- `entry::reader::read_entry` meets its contract: each way out is a law of the reader's definition.
 -- Assumes nothing.
+use native.Mathlib.Omega.{arith}
 use mathlib.Core.Path.{sym}
-use Rattle.entry.proofs.Reading.{code-unknown, code-short, code-elsewhere, code-fitting}
+use Rattle.entry.proofs.Reading.{code-unknown, code-short, code-reason, code-elsewhere, code-fitting}
 use borrow.Author.Needs.{needs}
 use Rattle.entry.proofs.reader.read_entry.Statement.{statement}
 use Rattle.entry.proofs.reader.read_entry.Tie as tie
@@ -60,7 +61,16 @@ event-fits-requires : tie.Need-event-fits-requires
 event-fits-requires c κs = search needs
 
 entry-of-requires : tie.Need-entry-of-requires
-entry-of-requires c κs = search needs
+entry-of-requires c κs =
+    let at-if3 = c .before in
+    let at-read-numbers = at-if3 .before in
+    let at-if2 = at-read-numbers .before .before in
+    let at-if1 = at-if2 .before .before in
+    let at-shape-of = at-if1 .before .before in
+    let at-number1 = at-shape-of .before in
+    let known = at-number1 .before in
+    code-reason (known .before .args .bytes .now) (at-number1 .number1 .ensures) (at-shape-of .shape-of .ensures) (at-if1 .if1 .left) (at-if2 .if2 .left)
+    (at-read-numbers .read-numbers .ensures) (λ i. omega (arith, known .shared-slice-known .given i))
 
 array-read-found-if : tie.Need-array-read-found-if
 array-read-found-if c = search needs
