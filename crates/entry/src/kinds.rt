@@ -83,7 +83,11 @@ fn then_of(told: Told) -> Then
     match told {
         Told::Voted(event, weighing) => {
             let verdict = weighing.verdict;
-            with_event(event, weighing.weighed, reason_only(verdict, weighing.reason))
+            with_event(
+                event,
+                weighing.weighed,
+                reason_only(verdict, weighing.reason),
+            )
         }
         Told::Noted => Then {
             event: 0,

@@ -63,7 +63,12 @@ fn entry_of(kind: u8, numbers: [u32; layout::FIELDS]) -> Entry
     Entry {
         transaction: numbers[1],
         filed: layout::filed_from(numbers),
-        told: kinds::told_of(kind, event_of(numbers[4], numbers[5]), numbers[6], numbers[7]),
+        told: kinds::told_of(
+            kind,
+            event_of(numbers[4], numbers[5]),
+            numbers[6],
+            numbers[7],
+        ),
     }
 }
 
