@@ -41,25 +41,25 @@ const EIGHT_HELD: &str = "deposit 9 1, close 10, close 11, close 12, close 13, c
 
 /// Requests weighed alone: the case, the state, the request, the line that answers it.
 const WEIGHED: [(&str, &str, &str, &str); 25] = [
-    ("case 1", "", "deposit 1 5", "rejected 1 0 100 deposit 5 1"),
+    ("case 1", "", "deposit 1 5", "rejected 1 0 100 deposit 5 1 1"),
     ("case 1", "", "open 1 0", "accepted 1 0 100 open 0 1"),
     ("case 1", "", "open 1 1000000", "accepted 1 0 100 open 1000000 1"),
-    ("case 1", "", "open 1 1000001", "rejected 1 0 100 open 1000001 1"),
+    ("case 1", "", "open 1 1000001", "rejected 1 0 100 open 1000001 1 4"),
     ("case 2", HUNDRED, "withdraw 2 100", "accepted 2 0 100 withdraw 100 1"),
-    ("case 2", HUNDRED, "withdraw 2 101", "rejected 2 0 100 withdraw 101 1"),
-    ("case 2", HUNDRED, "withdraw 2 0", "rejected 2 0 100 withdraw 0 1"),
+    ("case 2", HUNDRED, "withdraw 2 101", "rejected 2 0 100 withdraw 101 1 3"),
+    ("case 2", HUNDRED, "withdraw 2 0", "rejected 2 0 100 withdraw 0 1 2"),
     ("case 3", SIXTY, "withdraw 3 40", "accepted 3 0 100 withdraw 40 2"),
     ("case 3", SIXTY, "withdraw 3 41", "held 3 0 100 withdraw 41 2"),
-    ("case 3", SIXTY, "withdraw 3 101", "rejected 3 0 100 withdraw 101 2"),
+    ("case 3", SIXTY, "withdraw 3 101", "rejected 3 0 100 withdraw 101 2 3"),
     ("case 4", NEARLY, "deposit 2 10", "accepted 2 0 100 deposit 10 1"),
-    ("case 4", NEARLY, "deposit 2 11", "rejected 2 0 100 deposit 11 1"),
+    ("case 4", NEARLY, "deposit 2 11", "rejected 2 0 100 deposit 11 1 4"),
     ("case 4", "open 1 999990, commit 1, withdraw 2 1", "deposit 3 11", "held 3 0 100 deposit 11 2"),
     ("case 5", FORTY, "withdraw 4 1", "held 4 0 100 withdraw 1 4"),
     ("case 5", FORTY, "deposit 4 1", "accepted 4 0 100 deposit 1 4"),
     ("case 7", "open 1 10", "open 2 1", "held 2 0 100 open 1 2"),
     ("case 7", "open 1 10", "withdraw 2 5", "held 2 0 100 withdraw 5 2"),
-    ("case 7", "open 1 10", "withdraw 2 11", "rejected 2 0 100 withdraw 11 2"),
-    ("case 8", "open 1 100, commit 1, close 2", "withdraw 3 101", "rejected 3 0 100 withdraw 101 2"),
+    ("case 7", "open 1 10", "withdraw 2 11", "rejected 2 0 100 withdraw 11 2 1"),
+    ("case 8", "open 1 100, commit 1, close 2", "withdraw 3 101", "rejected 3 0 100 withdraw 101 2 3"),
     ("case 8", "open 1 100, commit 1, close 2", "deposit 3 1", "held 3 0 100 deposit 1 2"),
     ("case 9", SEVEN, "deposit 9 1", "accepted 9 0 100 deposit 1 128"),
     ("case 9", SEVEN, "deposit 9 1, deposit 10 1", "held 10 0 100 deposit 1 0"),
@@ -94,9 +94,9 @@ pub fn examples() -> Vec<Example> {
     examples.push(asked("case 6", &join(FORTY, "commit 3"), 3, &format!("{outcomes}end 8\n")));
     examples.push(rooms());
     examples.extend(lengths());
-    examples.push(run("the sample", SAMPLE_MESSAGES, 465, "6 0 78 150", &SAMPLE_ENTRIES.concat()));
-    examples.push(run("case 10", "open 1 7", 314, "1 1 15 0", ""));
-    examples.push(run("case 10", "open 1 7", 315, "1 0 15 18", "110000000100000000006401000000070001"));
+    examples.push(run("the sample", SAMPLE_MESSAGES, 473, "6 0 78 150", &SAMPLE_ENTRIES.concat()));
+    examples.push(run("case 10", "open 1 7", 322, "1 1 15 0", ""));
+    examples.push(run("case 10", "open 1 7", 323, "1 0 15 18", "110000000100000000006401000000070001"));
     examples.push(run("no input", "", 0, "0 0 0 0", ""));
     examples
 }
@@ -150,16 +150,16 @@ fn told(name: &'static str, words: &str, ends_in: &str) -> Example {
 
 /// Messages to the probe, then the outcome question on numbers from 0 on.
 fn asked(name: &'static str, words: &str, numbers: u32, ends_in: &str) -> Example {
-    let calls = messages(words).into_iter().flat_map(|message| frame(1, &[&[1, 59], &message[..]].concat()));
+    let calls = messages(words).into_iter().flat_map(|message| frame(1, &[&[1, 67], &message[..]].concat()));
     let questions = (0..numbers).flat_map(|number| frame(2, &[&[0, 0], &number.to_be_bytes()[..]].concat()));
     let input = calls.chain(questions).collect();
     Example { name, target: Target::Probe, input, ends_in: ends_in.to_string() }
 }
 
-/// Case 10: a buffer of 314 bytes, then one of 315.
+/// Case 10: a buffer of 322 bytes, then one of 323.
 fn rooms() -> Example {
     let open = &messages("open 1 7")[0];
-    let input = [frame(1, &[&[1, 58], &open[..]].concat()), frame(1, &[&[1, 59], &open[..]].concat())].concat();
+    let input = [frame(1, &[&[1, 66], &open[..]].concat()), frame(1, &[&[1, 67], &open[..]].concat())].concat();
     let ends_in = "probe 1\nrefused 4 kept\ntaken 15 18 110000000100000000006401000000070001 kept\nend 2\n";
     Example { name: "case 10", target: Target::Probe, input, ends_in: ends_in.to_string() }
 }
