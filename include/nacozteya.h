@@ -156,7 +156,8 @@ enum {
 };
 
 /*
- * The line of text of the entry that the bytes begin with (docs/REGISTER.md, 12.4 and 15.9).
+ * The line of text of the entry that the bytes begin with (docs/REGISTER.md, 12.4 and 15.9); that of a rejection ends in
+ * its reason, where its kind has one.
  *
  *   entry, entry_length     the bytes of the entry, perhaps with others behind it; they are only read
  *   line, line_length       where the line is stored, with no 0 behind it

@@ -1,5 +1,6 @@
-//! The examples of `docs/REGISTER.md` as streams: the sample is that of 12.6, case 1 is 14.1 and so on, and there
-//! is what programs get wrong that look right (the end of 14).
+//! The examples of `docs/REGISTER.md` as streams: the sample is that of 12.6, case 1 is 14.1 and so on; there is what
+//! programs get wrong that look right (the end of 14), the first reason that applies (3.4), the outcome that it is taken
+//! from (4.7), and the longest call (9.5).
 
 use crate::message::{Head, Message, KINDS};
 use crate::subject::Target;
@@ -40,7 +41,7 @@ const SEVEN: &str = "open 1 100, commit 1, withdraw 2 1, withdraw 3 1, withdraw 
 const EIGHT_HELD: &str = "deposit 9 1, close 10, close 11, close 12, close 13, close 14, close 15, close 16, close 17";
 
 /// Requests weighed alone: the case, the state, the request, the line that answers it.
-const WEIGHED: [(&str, &str, &str, &str); 25] = [
+const WEIGHED: [(&str, &str, &str, &str); 33] = [
     ("case 1", "", "deposit 1 5", "rejected 1 0 100 deposit 5 1 1"),
     ("case 1", "", "open 1 0", "accepted 1 0 100 open 0 1"),
     ("case 1", "", "open 1 1000000", "accepted 1 0 100 open 1000000 1"),
@@ -76,6 +77,19 @@ const WEIGHED: [(&str, &str, &str, &str); 25] = [
         "deposit 4 1",
         "held 4 0 100 deposit 1 0",
     ),
+    ("the first reason", "", "withdraw 1 0", "rejected 1 0 100 withdraw 0 1 1"),
+    ("the first reason", HUNDRED, "open 2 1000001", "rejected 2 0 100 open 1000001 1 1"),
+    ("the first reason", HUNDRED, "deposit 2 0", "rejected 2 0 100 deposit 0 1 2"),
+    ("the first reason", HUNDRED, "withdraw 2 4294967295", "rejected 2 0 100 withdraw 4294967295 1 3"),
+    ("the first reason", HUNDRED, "deposit 2 4294967295", "rejected 2 0 100 deposit 4294967295 1 4"),
+    ("the reason of outcome 0", "open 1 10", "open 2 1000001", "rejected 2 0 100 open 1000001 2 4"),
+    ("the reason of outcome 0", "open 1 10", "withdraw 2 0", "rejected 2 0 100 withdraw 0 2 1"),
+    (
+        "the reason of outcome 0, with what is committed",
+        "open 1 100, commit 1, withdraw 2 60, close 3, commit 3",
+        "withdraw 4 101",
+        "rejected 4 0 100 withdraw 101 2 1",
+    ),
 ];
 
 /// Every example.
@@ -88,6 +102,12 @@ pub fn examples() -> Vec<Example> {
     let one_more = join(&join(SEVEN, EIGHT_HELD), "deposit 18 1");
     examples.push(told("case 9", &one_more, "held 17 0 100 close 0 0\nrefused 7\nend 19 1\n"));
     examples.push(told("no input", "", "register 1\nend 0 0\n"));
+    let turned = "accepted 2 0 100 withdraw 5 1\nrejected 3 0 100 withdraw 20 2 3\nend 4 0\n";
+    examples.push(told("the reason on its turn", "open 1 10, withdraw 2 5, withdraw 3 20, commit 1", turned));
+    let turned = "rejected 3 0 100 withdraw 30 1 1\nrejected 4 0 100 withdraw 300 1 1\nend 6 0\n";
+    let closed = join(HUNDRED, "close 2, withdraw 3 30, withdraw 4 300, commit 2");
+    examples.push(told("the reason on its turn", &closed, turned));
+    examples.push(longest_call());
     let outcomes = "outcome opened 100 0\noutcome opened 40 1\noutcome opened 60 1\noutcome opened 0 2\nrefused 12\n";
     examples.push(asked("case 5", FORTY, 5, &format!("{outcomes}end 9\n")));
     let outcomes = "outcome opened 60 0\noutcome opened 0 1\nrefused 12\n";
@@ -162,6 +182,21 @@ fn rooms() -> Example {
     let input = [frame(1, &[&[1, 66], &open[..]].concat()), frame(1, &[&[1, 67], &open[..]].concat())].concat();
     let ends_in = "probe 1\nrefused 4 kept\ntaken 15 18 110000000100000000006401000000070001 kept\nend 2\n";
     Example { name: "case 10", target: Target::Probe, input, ends_in: ends_in.to_string() }
+}
+
+/// Eight deposits in progress, eight withdrawals held behind them; the deposits are committed from the newest on, and
+/// with the last commit all are applied, and the withdrawals rejected: 108 steps are left, 109 were asked for.
+fn longest_call() -> Example {
+    let deposits: String = (2..10).map(|number| format!(", deposit {number} 1")).collect();
+    let withdrawals: String = (10..18).map(|number| format!(", withdraw {number} 109")).collect();
+    let commits: String = (2..10).rev().map(|number| format!(", commit {number}")).collect();
+    let all = messages(&[HUNDRED, &deposits, &withdrawals, &commits].concat());
+    let applied = |number: u32| format!("15{number:08x}0000000000640300000001{:08x}", 99 + number);
+    let rejected = |number: u32| format!("17{number:08x}000000000064020000006d000103");
+    let written: String = (2..10).map(applied).chain((10..18).map(rejected)).collect();
+    let ends_in = format!("taken 11 323 1400000002000000000064{written} kept\nend {}\n", all.len());
+    let input = all.iter().flat_map(|message| frame(1, &[&[1, 67], &message[..]].concat())).collect();
+    Example { name: "the longest call", target: Target::Probe, input, ends_in }
 }
 
 /// A frame of the probe.
