@@ -132,6 +132,11 @@ impl Traffic {
         account.is_some_and(|account| account.outcomes().iter().all(|state| state.life == Life::Closed))
     }
 
+    /// Whether three in four accounts and more are not closed for good.
+    fn many_last(&self) -> bool {
+        (0..ACCOUNTS as u16).filter(|at| self.ended(*at)).count() * 4 <= ACCOUNTS
+    }
+
     /// Turns to filling the account, for so many messages.
     pub fn turn_to_fill(&mut self, account: u16, messages: u64) {
         (self.mood, self.account, self.left) = (Mood::Longest, account, messages);
@@ -244,8 +249,16 @@ impl Traffic {
         let newest = account.with(Standing::Undecided).last().copied();
         let held = account.with(Standing::Held).len();
         let differ = lives_differ(account);
-        if let (true, Some(newest)) = (differ, newest.filter(|_| self.random.chance(if held > 1 { 30 } else { 10 }))) {
-            let decision = self.random.pick(&[Message::Commit as fn(Head) -> Message, Message::Abort]);
+        let decided = match (self.left, held) {
+            (0..2, _) => 90,
+            (_, 2..) => 30,
+            _ => 15,
+        };
+        if let (true, Some(newest)) = (differ, newest.filter(|_| self.random.chance(decided))) {
+            // A closed account rejects everything from then on: most are kept from it.
+            let closing = account.outcomes()[0].life == Life::Opened;
+            let commits = if closing { 15 } else { 60 };
+            let decision = if self.random.chance(commits) { Message::Commit } else { Message::Abort };
             return self.message(newest, at, decision);
         }
         if held == PLACES {
@@ -254,7 +267,7 @@ impl Traffic {
         let event = match self.random.below(10) {
             0..=2 if differ && held == 0 => possible(&mut self.random, account),
             0..=3 if !differ && unopened(account) => small(&mut self.random, account),
-            0 | 1 if !differ => Event::Close,
+            0 if !differ && self.many_last() => Event::Close,
             _ => hopeless(&mut self.random, account),
         };
         self.request(at, account, event)
