@@ -17,19 +17,20 @@
 static uint8_t messages[MOST_BYTES];
 static uint8_t entries[(MOST_BYTES / SHORTEST_MESSAGE + 1) * NACOZTEYA_LONGEST_CALL];
 
-/* The whole length of an entry of a kind, and 0 for a kind that is none. */
+/* The whole length of an entry of a kind that a run writes, and 0 for any other. */
 static size_t entry_length(uint8_t kind)
 {
     switch (kind) {
-    case 17: /* accepted */
-    case 18: /* rejected */
-    case 19: /* held */
+    case NACOZTEYA_ENTRY_ACCEPTED:
+    case NACOZTEYA_ENTRY_HELD:
         return 18;
-    case 20: /* commit noted */
+    case NACOZTEYA_ENTRY_REJECTED:
+        return 19;
+    case NACOZTEYA_ENTRY_NOTED:
         return 11;
-    case 21: /* applied */
+    case NACOZTEYA_ENTRY_APPLIED:
         return 20;
-    case 22: /* dropped */
+    case NACOZTEYA_ENTRY_DROPPED:
         return 16;
     default:
         return 0;

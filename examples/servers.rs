@@ -48,7 +48,11 @@ impl Shared {
                 self.text += &format!("refused {}\n", refusal.number());
                 // behind 1 and 2 nothing more is read, behind any other the next message starts where this one ends
                 let stops = refusal.number() <= 2;
-                self.at = if stops { self.messages.len() } else { self.at + message_length(kind) };
+                self.at = if stops {
+                    self.messages.len()
+                } else {
+                    self.at + message_length(kind)
+                };
             }
         }
         true
@@ -90,7 +94,14 @@ fn main() -> ExitCode {
     let mut messages = Vec::new();
     let _ = std::io::stdin().read_to_end(&mut messages);
     let text = String::from("register 1\n");
-    let shared = Mutex::new(Shared { register: Register::new(), messages, at: 0, met: 0, refused: 0, text });
+    let shared = Mutex::new(Shared {
+        register: Register::new(),
+        messages,
+        at: 0,
+        met: 0,
+        refused: 0,
+        text,
+    });
     thread::scope(|scope| {
         for _ in 0..SERVERS {
             scope.spawn(|| serve(&shared));
@@ -99,7 +110,13 @@ fn main() -> ExitCode {
     let Ok(shared) = shared.into_inner() else {
         return ExitCode::FAILURE;
     };
-    let text = format!("{}end {} {}\n{}", shared.text, shared.met, shared.refused, shared.accounts());
+    let text = format!(
+        "{}end {} {}\n{}",
+        shared.text,
+        shared.met,
+        shared.refused,
+        shared.accounts()
+    );
     match std::io::stdout().write_all(text.as_bytes()) {
         Ok(()) => ExitCode::SUCCESS,
         Err(_) => ExitCode::FAILURE,

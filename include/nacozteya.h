@@ -7,7 +7,7 @@
  * the run against `exportOf` in crates/register/specs/First.antt (contract in
  * crates/register/src/export.rt), the others against `exportedCallOf`, `exportedLookOf` and
  * `exportedLineOf` in crates/live/specs/First.antt (contracts in crates/live/src/export.rt). Nothing checks these
- * declarations against the contracts; the lengths below are tested (bindings/rust/tests).
+ * declarations against the contracts; the lengths, kinds and reasons below are tested (bindings/rust/tests).
  *
  * What the caller ensures, of every function:
  *   - no pointer is null, also where its length is 0, and each buffer is as long as its length says;
@@ -26,7 +26,26 @@ extern "C" {
 #endif
 
 /* The room that a call needs in the entry buffer: with less left, its message is refused with 4. */
-#define NACOZTEYA_LONGEST_CALL 315
+#define NACOZTEYA_LONGEST_CALL 323
+
+/* The kinds of entries: the first byte of each (docs/REGISTER.md, 9.1). */
+enum {
+    NACOZTEYA_ENTRY_ACCEPTED = 17,
+    NACOZTEYA_ENTRY_REJECTED_BEFORE = 18, /* a rejection without its reason: read, never written */
+    NACOZTEYA_ENTRY_HELD = 19,
+    NACOZTEYA_ENTRY_NOTED = 20,
+    NACOZTEYA_ENTRY_APPLIED = 21,
+    NACOZTEYA_ENTRY_DROPPED = 22,
+    NACOZTEYA_ENTRY_REJECTED = 23 /* its last byte is the reason */
+};
+
+/* The reasons of a rejection (docs/REGISTER.md, 3.4 and 4.7). */
+enum {
+    NACOZTEYA_REASON_LIFE = 1,  /* the account is not in the life that the event asks for */
+    NACOZTEYA_REASON_ZERO = 2,  /* the amount is 0 */
+    NACOZTEYA_REASON_STEPS = 3, /* fewer steps are left than are to be withdrawn */
+    NACOZTEYA_REASON_LIMIT = 4  /* the account would have more steps than 1,000,000 */
+};
 
 /* ---- a run of messages ---- */
 
@@ -127,7 +146,7 @@ uint64_t nacozteya_outlook(const uint32_t *image, size_t image_length,
 /* ---- the text of an entry ---- */
 
 /* The room that a line needs, whatever its entry is. */
-#define NACOZTEYA_LONGEST_LINE 68
+#define NACOZTEYA_LONGEST_LINE 72
 
 /* The places of a line's `counts`. */
 enum {
@@ -137,7 +156,8 @@ enum {
 };
 
 /*
- * The line of text of the entry that the bytes begin with (docs/REGISTER.md, 12.4 and 15.9).
+ * The line of text of the entry that the bytes begin with (docs/REGISTER.md, 12.4 and 15.9); that of a rejection ends in
+ * its reason, where its kind has one.
  *
  *   entry, entry_length     the bytes of the entry, perhaps with others behind it; they are only read
  *   line, line_length       where the line is stored, with no 0 behind it

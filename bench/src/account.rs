@@ -56,6 +56,11 @@ pub trait AccountRules: EventRules {
         account.outcomes.vote(|state| self.guard(event, state))
     }
 
+    /// The reason in a rejection: that of outcome 0, as the outcomes are when it is written.
+    fn given(&self, account: &Account, event: Event) -> Option<u8> {
+        self.reason(event, *account.outcomes().first()?)
+    }
+
     /// The number in the entry of a request that was weighed.
     fn count(&self, account: &Account) -> u16 {
         account.outcomes.count() as u16
@@ -173,17 +178,25 @@ impl Account {
 
     /// Decides a request: held unweighed, or weighed.
     fn request(&mut self, request: Request, rules: &impl AccountRules) -> Entry {
-        let (vote, outcomes) = if rules.unweighed(self) {
-            (Vote::Held, rules.count_unweighed(self))
-        } else {
-            (rules.weigh(self, request.event), rules.count(self))
-        };
+        if rules.unweighed(self) {
+            let outcomes = rules.count_unweighed(self);
+            self.hold(request);
+            return Entry::Voted { vote: Vote::Held, request, outcomes, reason: None };
+        }
+        let vote = rules.weigh(self, request.event);
+        let entry = self.voted(vote, request, rules);
         match vote {
             Vote::Accepted => rules.admit(self, request),
             Vote::Rejected => {}
             Vote::Held => self.hold(request),
         }
-        Entry::Voted { vote, request, outcomes }
+        entry
+    }
+
+    /// The entry of a request that was weighed, before anything changes by it.
+    pub fn voted(&self, vote: Vote, request: Request, rules: &impl AccountRules) -> Entry {
+        let reason = if vote == Vote::Rejected { rules.given(self, request.event) } else { None };
+        Entry::Voted { vote, request, outcomes: rules.count(self), reason }
     }
 
     /// Marks an undecided event: the outcomes in which it is applied are left.
@@ -220,16 +233,17 @@ impl Account {
     pub fn decide_next(&mut self, rules: &impl AccountRules) -> Option<Entry> {
         let at = rules.next_weighed(self)?;
         let request = self.held[at];
-        let (vote, outcomes) = (rules.weigh(self, request.event), rules.count(self));
+        let vote = rules.weigh(self, request.event);
         if vote == Vote::Held {
             return None;
         }
+        let entry = self.voted(vote, request, rules);
         self.held.remove(at);
         self.standing.remove(&request.transaction);
         if vote == Vote::Accepted {
             rules.admit(self, request);
         }
-        Some(Entry::Voted { vote, request, outcomes })
+        Some(entry)
     }
 
     /// Takes a request in progress, undecided, as the newest.

@@ -1,5 +1,6 @@
-//! The examples of `docs/REGISTER.md` as streams: the sample is that of 12.6, case 1 is 14.1 and so on, and there
-//! is what programs get wrong that look right (the end of 14).
+//! The examples of `docs/REGISTER.md` as streams: the sample is that of 12.6, case 1 is 14.1 and so on; there is what
+//! programs get wrong that look right (the end of 14), the first reason that applies (3.4), the outcome that it is taken
+//! from (4.7), and the longest call (9.5).
 
 use crate::message::{Head, Message, KINDS};
 use crate::subject::Target;
@@ -40,26 +41,26 @@ const SEVEN: &str = "open 1 100, commit 1, withdraw 2 1, withdraw 3 1, withdraw 
 const EIGHT_HELD: &str = "deposit 9 1, close 10, close 11, close 12, close 13, close 14, close 15, close 16, close 17";
 
 /// Requests weighed alone: the case, the state, the request, the line that answers it.
-const WEIGHED: [(&str, &str, &str, &str); 25] = [
-    ("case 1", "", "deposit 1 5", "rejected 1 0 100 deposit 5 1"),
+const WEIGHED: [(&str, &str, &str, &str); 33] = [
+    ("case 1", "", "deposit 1 5", "rejected 1 0 100 deposit 5 1 1"),
     ("case 1", "", "open 1 0", "accepted 1 0 100 open 0 1"),
     ("case 1", "", "open 1 1000000", "accepted 1 0 100 open 1000000 1"),
-    ("case 1", "", "open 1 1000001", "rejected 1 0 100 open 1000001 1"),
+    ("case 1", "", "open 1 1000001", "rejected 1 0 100 open 1000001 1 4"),
     ("case 2", HUNDRED, "withdraw 2 100", "accepted 2 0 100 withdraw 100 1"),
-    ("case 2", HUNDRED, "withdraw 2 101", "rejected 2 0 100 withdraw 101 1"),
-    ("case 2", HUNDRED, "withdraw 2 0", "rejected 2 0 100 withdraw 0 1"),
+    ("case 2", HUNDRED, "withdraw 2 101", "rejected 2 0 100 withdraw 101 1 3"),
+    ("case 2", HUNDRED, "withdraw 2 0", "rejected 2 0 100 withdraw 0 1 2"),
     ("case 3", SIXTY, "withdraw 3 40", "accepted 3 0 100 withdraw 40 2"),
     ("case 3", SIXTY, "withdraw 3 41", "held 3 0 100 withdraw 41 2"),
-    ("case 3", SIXTY, "withdraw 3 101", "rejected 3 0 100 withdraw 101 2"),
+    ("case 3", SIXTY, "withdraw 3 101", "rejected 3 0 100 withdraw 101 2 3"),
     ("case 4", NEARLY, "deposit 2 10", "accepted 2 0 100 deposit 10 1"),
-    ("case 4", NEARLY, "deposit 2 11", "rejected 2 0 100 deposit 11 1"),
+    ("case 4", NEARLY, "deposit 2 11", "rejected 2 0 100 deposit 11 1 4"),
     ("case 4", "open 1 999990, commit 1, withdraw 2 1", "deposit 3 11", "held 3 0 100 deposit 11 2"),
     ("case 5", FORTY, "withdraw 4 1", "held 4 0 100 withdraw 1 4"),
     ("case 5", FORTY, "deposit 4 1", "accepted 4 0 100 deposit 1 4"),
     ("case 7", "open 1 10", "open 2 1", "held 2 0 100 open 1 2"),
     ("case 7", "open 1 10", "withdraw 2 5", "held 2 0 100 withdraw 5 2"),
-    ("case 7", "open 1 10", "withdraw 2 11", "rejected 2 0 100 withdraw 11 2"),
-    ("case 8", "open 1 100, commit 1, close 2", "withdraw 3 101", "rejected 3 0 100 withdraw 101 2"),
+    ("case 7", "open 1 10", "withdraw 2 11", "rejected 2 0 100 withdraw 11 2 1"),
+    ("case 8", "open 1 100, commit 1, close 2", "withdraw 3 101", "rejected 3 0 100 withdraw 101 2 3"),
     ("case 8", "open 1 100, commit 1, close 2", "deposit 3 1", "held 3 0 100 deposit 1 2"),
     ("case 9", SEVEN, "deposit 9 1", "accepted 9 0 100 deposit 1 128"),
     ("case 9", SEVEN, "deposit 9 1, deposit 10 1", "held 10 0 100 deposit 1 0"),
@@ -76,6 +77,19 @@ const WEIGHED: [(&str, &str, &str, &str); 25] = [
         "deposit 4 1",
         "held 4 0 100 deposit 1 0",
     ),
+    ("the first reason", "", "withdraw 1 0", "rejected 1 0 100 withdraw 0 1 1"),
+    ("the first reason", HUNDRED, "open 2 1000001", "rejected 2 0 100 open 1000001 1 1"),
+    ("the first reason", HUNDRED, "deposit 2 0", "rejected 2 0 100 deposit 0 1 2"),
+    ("the first reason", HUNDRED, "withdraw 2 4294967295", "rejected 2 0 100 withdraw 4294967295 1 3"),
+    ("the first reason", HUNDRED, "deposit 2 4294967295", "rejected 2 0 100 deposit 4294967295 1 4"),
+    ("the reason of outcome 0", "open 1 10", "open 2 1000001", "rejected 2 0 100 open 1000001 2 4"),
+    ("the reason of outcome 0", "open 1 10", "withdraw 2 0", "rejected 2 0 100 withdraw 0 2 1"),
+    (
+        "the reason of outcome 0, with what is committed",
+        "open 1 100, commit 1, withdraw 2 60, close 3, commit 3",
+        "withdraw 4 101",
+        "rejected 4 0 100 withdraw 101 2 1",
+    ),
 ];
 
 /// Every example.
@@ -88,15 +102,21 @@ pub fn examples() -> Vec<Example> {
     let one_more = join(&join(SEVEN, EIGHT_HELD), "deposit 18 1");
     examples.push(told("case 9", &one_more, "held 17 0 100 close 0 0\nrefused 7\nend 19 1\n"));
     examples.push(told("no input", "", "register 1\nend 0 0\n"));
+    let turned = "accepted 2 0 100 withdraw 5 1\nrejected 3 0 100 withdraw 20 2 3\nend 4 0\n";
+    examples.push(told("the reason on its turn", "open 1 10, withdraw 2 5, withdraw 3 20, commit 1", turned));
+    let turned = "rejected 3 0 100 withdraw 30 1 1\nrejected 4 0 100 withdraw 300 1 1\nend 6 0\n";
+    let closed = join(HUNDRED, "close 2, withdraw 3 30, withdraw 4 300, commit 2");
+    examples.push(told("the reason on its turn", &closed, turned));
+    examples.push(longest_call());
     let outcomes = "outcome opened 100 0\noutcome opened 40 1\noutcome opened 60 1\noutcome opened 0 2\nrefused 12\n";
     examples.push(asked("case 5", FORTY, 5, &format!("{outcomes}end 9\n")));
     let outcomes = "outcome opened 60 0\noutcome opened 0 1\nrefused 12\n";
     examples.push(asked("case 6", &join(FORTY, "commit 3"), 3, &format!("{outcomes}end 8\n")));
     examples.push(rooms());
     examples.extend(lengths());
-    examples.push(run("the sample", SAMPLE_MESSAGES, 465, "6 0 78 150", &SAMPLE_ENTRIES.concat()));
-    examples.push(run("case 10", "open 1 7", 314, "1 1 15 0", ""));
-    examples.push(run("case 10", "open 1 7", 315, "1 0 15 18", "110000000100000000006401000000070001"));
+    examples.push(run("the sample", SAMPLE_MESSAGES, 473, "6 0 78 150", &SAMPLE_ENTRIES.concat()));
+    examples.push(run("case 10", "open 1 7", 322, "1 1 15 0", ""));
+    examples.push(run("case 10", "open 1 7", 323, "1 0 15 18", "110000000100000000006401000000070001"));
     examples.push(run("no input", "", 0, "0 0 0 0", ""));
     examples
 }
@@ -150,18 +170,33 @@ fn told(name: &'static str, words: &str, ends_in: &str) -> Example {
 
 /// Messages to the probe, then the outcome question on numbers from 0 on.
 fn asked(name: &'static str, words: &str, numbers: u32, ends_in: &str) -> Example {
-    let calls = messages(words).into_iter().flat_map(|message| frame(1, &[&[1, 59], &message[..]].concat()));
+    let calls = messages(words).into_iter().flat_map(|message| frame(1, &[&[1, 67], &message[..]].concat()));
     let questions = (0..numbers).flat_map(|number| frame(2, &[&[0, 0], &number.to_be_bytes()[..]].concat()));
     let input = calls.chain(questions).collect();
     Example { name, target: Target::Probe, input, ends_in: ends_in.to_string() }
 }
 
-/// Case 10: a buffer of 314 bytes, then one of 315.
+/// Case 10: a buffer of 322 bytes, then one of 323.
 fn rooms() -> Example {
     let open = &messages("open 1 7")[0];
-    let input = [frame(1, &[&[1, 58], &open[..]].concat()), frame(1, &[&[1, 59], &open[..]].concat())].concat();
+    let input = [frame(1, &[&[1, 66], &open[..]].concat()), frame(1, &[&[1, 67], &open[..]].concat())].concat();
     let ends_in = "probe 1\nrefused 4 kept\ntaken 15 18 110000000100000000006401000000070001 kept\nend 2\n";
     Example { name: "case 10", target: Target::Probe, input, ends_in: ends_in.to_string() }
+}
+
+/// Eight deposits in progress, eight withdrawals held behind them; the deposits are committed from the newest on, and
+/// with the last commit all are applied, and the withdrawals rejected: 108 steps are left, 109 were asked for.
+fn longest_call() -> Example {
+    let deposits: String = (2..10).map(|number| format!(", deposit {number} 1")).collect();
+    let withdrawals: String = (10..18).map(|number| format!(", withdraw {number} 109")).collect();
+    let commits: String = (2..10).rev().map(|number| format!(", commit {number}")).collect();
+    let all = messages(&[HUNDRED, &deposits, &withdrawals, &commits].concat());
+    let applied = |number: u32| format!("15{number:08x}0000000000640300000001{:08x}", 99 + number);
+    let rejected = |number: u32| format!("17{number:08x}000000000064020000006d000103");
+    let written: String = (2..10).map(applied).chain((10..18).map(rejected)).collect();
+    let ends_in = format!("taken 11 323 1400000002000000000064{written} kept\nend {}\n", all.len());
+    let input = all.iter().flat_map(|message| frame(1, &[&[1, 67], &message[..]].concat())).collect();
+    Example { name: "the longest call", target: Target::Probe, input, ends_in }
 }
 
 /// A frame of the probe.

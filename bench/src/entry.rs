@@ -7,26 +7,29 @@ use crate::outcomes::Vote;
 use crate::request::Request;
 
 /// Each kind with its name and its whole length.
-pub const KINDS: [(u8, &str, usize); 6] = [
+pub const KINDS: [(u8, &str, usize); 7] = [
     (ACCEPTED, "accepted", 18),
-    (REJECTED, "rejected", 18),
+    (UNEXPLAINED, "rejected", 18),
     (HELD, "held", 18),
     (NOTED, "noted", 11),
     (APPLIED, "applied", 20),
     (DROPPED, "dropped", 16),
+    (REJECTED, "rejected", 19),
 ];
 pub const ACCEPTED: u8 = 17;
-pub const REJECTED: u8 = 18;
+/// A rejection without its reason: read, never written.
+pub const UNEXPLAINED: u8 = 18;
 pub const HELD: u8 = 19;
 pub const NOTED: u8 = 20;
 pub const APPLIED: u8 = 21;
 pub const DROPPED: u8 = 22;
+pub const REJECTED: u8 = 23;
 
 /// An entry; the account it is on stands beside it.
 #[derive(Clone, Copy, PartialEq, Eq, Debug)]
 pub enum Entry {
-    /// A vote, with the number of outcomes weighed.
-    Voted { vote: Vote, request: Request, outcomes: u16 },
+    /// A vote, with the number of outcomes weighed; a rejection has its reason, but for one read in the older kind.
+    Voted { vote: Vote, request: Request, outcomes: u16, reason: Option<u8> },
     /// A commit noted, with the commit's own second.
     Noted { transaction: u32, second: u32 },
     /// An event applied, with the balance after it.
@@ -43,6 +46,7 @@ impl Entry {
     pub fn kind(&self) -> u8 {
         match self {
             Entry::Voted { vote: Vote::Accepted, .. } => ACCEPTED,
+            Entry::Voted { vote: Vote::Rejected, reason: None, .. } => UNEXPLAINED,
             Entry::Voted { vote: Vote::Rejected, .. } => REJECTED,
             Entry::Voted { vote: Vote::Held, .. } => HELD,
             Entry::Noted { .. } => NOTED,
@@ -76,10 +80,18 @@ impl Entry {
         }
     }
 
-    /// What the kind has of event kind, amount, outcomes and balance, each behind the separator.
+    /// The reason of a rejection, where the entry has one.
+    pub fn reason(&self) -> Option<u8> {
+        match *self {
+            Entry::Voted { reason, .. } => reason,
+            Entry::Noted { .. } | Entry::Applied { .. } | Entry::Dropped { .. } => None,
+        }
+    }
+
+    /// What the kind has of event kind, amount, outcomes, balance and reason, each behind the separator.
     pub fn numbers(&self, separator: char) -> String {
         let event = self.request().map(|request| [u32::from(request.event.kind()), request.event.amount()]);
-        let all = event.into_iter().flatten().chain(self.last());
+        let all = event.into_iter().flatten().chain(self.last()).chain(self.reason().map(u32::from));
         all.map(|number| format!("{separator}{number}")).collect()
     }
 
@@ -100,6 +112,7 @@ impl Entry {
             Entry::Applied { balance, .. } => bytes.extend(balance.to_be_bytes()),
             Entry::Noted { .. } | Entry::Dropped { .. } => {}
         }
+        bytes.extend(self.reason());
         bytes
     }
 
@@ -111,8 +124,8 @@ impl Entry {
         if let Some(Request { event, .. }) = self.request() {
             line += &format!(" {} {}", event.name(), event.amount());
         }
-        if let Some(last) = self.last() {
-            line += &format!(" {last}");
+        for number in self.last().into_iter().chain(self.reason().map(u32::from)) {
+            line += &format!(" {number}");
         }
         line
     }
@@ -123,8 +136,18 @@ pub fn kind(number: u8) -> Option<(&'static str, usize)> {
     KINDS.iter().find(|kind| kind.0 == number).map(|kind| (kind.1, kind.2))
 }
 
-/// The reader by itself.
+/// Reader, bytes and line by themselves.
 pub trait EntryRules {
+    /// The bytes that a call writes for an entry.
+    fn write_entry(&self, entry: &Entry, account: u16) -> Vec<u8> {
+        entry.bytes(account)
+    }
+
+    /// The line of an entry, without its newline.
+    fn entry_line(&self, entry: &Entry, account: u16) -> String {
+        entry.line(account)
+    }
+
     /// The entry at the beginning of the bytes, with its account and length, by the layout alone.
     fn read_entry(&self, bytes: &[u8]) -> Option<(Entry, u16, usize)> {
         let number = *bytes.first()?;
@@ -147,10 +170,15 @@ fn of_request(kind: u8, transaction: u32, second: u32, numbers: &mut Numbers) ->
     let amount = numbers.next(4);
     let event = Event::of(event_kind, amount).filter(|event| event.amount() == amount)?;
     let request = Request { transaction, second, event };
-    let mut voted = |vote| Entry::Voted { vote, request, outcomes: numbers.next(2) as u16 };
+    let mut voted = |vote| Entry::Voted {
+        vote,
+        request,
+        outcomes: numbers.next(2) as u16,
+        reason: (kind == REJECTED).then(|| numbers.next(1) as u8),
+    };
     Some(match kind {
         ACCEPTED => voted(Vote::Accepted),
-        REJECTED => voted(Vote::Rejected),
+        UNEXPLAINED | REJECTED => voted(Vote::Rejected),
         HELD => voted(Vote::Held),
         APPLIED => Entry::Applied { request, balance: numbers.next(4) },
         _ => Entry::Dropped { request },

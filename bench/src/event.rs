@@ -1,4 +1,4 @@
-//! The four events, their guards and effects (`docs/REGISTER.md`, 3.1).
+//! The four events, their guards, reasons and effects (`docs/REGISTER.md`, 3.1 and 3.4).
 
 use crate::limits::LIMIT;
 
@@ -83,19 +83,31 @@ impl Event {
     }
 }
 
-/// Guards and effects, one row of the table each.
+/// Why an event is not possible in a state: its life is another than the event asks for, ..
+pub const OTHER_LIFE: u8 = 1;
+pub const AMOUNT_ZERO: u8 = 2;
+pub const TOO_FEW_STEPS: u8 = 3;
+pub const OVER_THE_LIMIT: u8 = 4;
+
+/// Reasons and effects, one row of the table each.
 pub trait EventRules: Sized {
-    /// Whether the guard of an event holds in a state.
-    fn guard(&self, event: Event, state: State) -> bool {
-        let opened = state.life == Life::Opened;
+    /// Why an event is not possible in a state, the first reason that applies; none where it is possible.
+    fn reason(&self, event: Event, state: State) -> Option<u8> {
+        let asked = if matches!(event, Event::Open(_)) { Life::New } else { Life::Opened };
+        let over = u64::from(state.balance) + u64::from(event.amount()) > u64::from(LIMIT);
         match event {
-            Event::Open(amount) => state.life == Life::New && amount <= LIMIT,
-            Event::Withdraw(amount) => opened && amount >= 1 && state.balance >= amount,
-            Event::Deposit(amount) => {
-                opened && amount >= 1 && u64::from(state.balance) + u64::from(amount) <= u64::from(LIMIT)
-            }
-            Event::Close => opened,
+            _ if state.life != asked => Some(OTHER_LIFE),
+            Event::Withdraw(0) | Event::Deposit(0) => Some(AMOUNT_ZERO),
+            Event::Withdraw(amount) if state.balance < amount => Some(TOO_FEW_STEPS),
+            Event::Deposit(_) if over => Some(OVER_THE_LIMIT),
+            Event::Open(amount) if amount > LIMIT => Some(OVER_THE_LIMIT),
+            _ => None,
         }
+    }
+
+    /// Whether the guard of an event holds in a state: there is no reason against it.
+    fn guard(&self, event: Event, state: State) -> bool {
+        self.reason(event, state).is_none()
     }
 
     /// The state after an event whose guard holds.

@@ -13,7 +13,7 @@ pub fn text(input: &[u8], rules: &impl RunRules) -> String {
         let taken = rules.take(&mut register, rest, ROOM);
         let taken = taken.inspect_err(|number| text += &format!("refused {number}\n"))?;
         for entry in &taken.entries {
-            text += &format!("{}\n", entry.line(taken.account));
+            text += &format!("{}\n", rules.entry_line(entry, taken.account));
         }
         Ok(taken.consumed)
     });

@@ -7,6 +7,6 @@ pub const LIMIT: u32 = 1_000_000;
 /// Accounts of a register.
 pub const ACCOUNTS: usize = 16;
 /// The longest call's entries: the room that every call asks for.
-pub const ROOM: usize = 315;
+pub const ROOM: usize = 323;
 /// The longest input of the program and of the probe.
 pub const LONGEST: usize = 65_536;

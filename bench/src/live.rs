@@ -12,7 +12,6 @@
 //! | 5 | a line: room (2), places for counts (1), entry |
 
 use crate::bytes::{hex, Numbers};
-use crate::entry::EntryRules;
 use crate::image::Image;
 use crate::limits::{ACCOUNTS, PLACES};
 use crate::probe::split;
@@ -26,7 +25,7 @@ pub const WORDS: usize = ACCOUNTS * ACCOUNT;
 pub const MOST_ROOM: usize = 400;
 const MOST_PLACES: usize = 8;
 /// The room that every line asks for.
-const LINE_ROOM: usize = 68;
+const LINE_ROOM: usize = 72;
 /// So much stands on each side of what is lent.
 const BESIDE: usize = 8;
 
@@ -38,7 +37,7 @@ pub trait Lender {
 }
 
 /// The rules of calls on an image (`docs/REGISTER.md`, 15.6 to 15.9).
-pub trait LiveRules: RunRules + EntryRules + WordRules {
+pub trait LiveRules: RunRules + WordRules {
     /// The register of which the account with these words is known, and the others are fresh.
     fn register_of(&self, image: &[u32], account: usize) -> Register {
         let mut register = Register::fresh();
@@ -99,7 +98,8 @@ impl<R: LiveRules> Lender for Model<'_, R> {
 
     fn line(&mut self, entry: &[u8], line: &mut [u8], counts: &mut [u64]) -> u64 {
         let read = self.0.read_entry(entry).filter(|_| line.len() >= LINE_ROOM);
-        let text = read.as_ref().map(|(entry, account, _)| entry.line(*account) + "\n").unwrap_or_default();
+        let text =
+            read.as_ref().map(|(entry, account, _)| self.0.entry_line(entry, *account) + "\n").unwrap_or_default();
         store(line, text.as_bytes());
         store(counts, &[read.map_or(0, |read| read.2 as u64), text.len() as u64]);
         text.len() as u64

@@ -15,7 +15,7 @@ pub fn text(input: &[u8], rules: &impl RunRules) -> String {
         let taken = rules.take(&mut register, rest, ROOM);
         let taken = taken.inspect_err(|number| text += &format!("refused {number}\n"))?;
         for entry in &taken.entries {
-            text += &entry.line(taken.account);
+            text += &rules.entry_line(entry, taken.account);
             text.push('\n');
         }
         Ok(taken.consumed)

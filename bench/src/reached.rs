@@ -18,16 +18,16 @@ const RUNS: [&str; 13] = [
     "4 places",
     "5 places",
     "room 0",
-    "room below 314",
-    "room 314",
-    "room 315",
-    "room above 315",
+    "room below 322",
+    "room 322",
+    "room 323",
+    "room above 323",
     "room that runs out",
     "no message",
 ];
 
 /// What the words of an account can be, and what a line can be.
-const IMAGES: [&str; 14] = [
+const IMAGES: [&str; 16] = [
     "an account",
     "too few words",
     "a life above 2",
@@ -39,9 +39,11 @@ const IMAGES: [&str; 14] = [
     "2 places",
     "3 places",
     "a line",
+    "a rejection's line",
+    "a rejection's line without a reason",
     "no entry",
-    "line with room 67",
-    "line with room below 67",
+    "line with room 71",
+    "line with room below 71",
 ];
 
 impl Tally {
@@ -57,7 +59,9 @@ impl Tally {
             Target::Probe => {
                 checks.extend(self.seen_lines(&LINES));
                 checks.extend(self.seen_lines(&PROBE_LINES));
-                checks.push(("a call of 315 bytes".into(), self.longest > 0));
+                checks.push(("a call of 323 bytes".into(), self.longest > 0));
+                let kinds = entry::KINDS.map(|kind| u32::from(kind.0));
+                checks.extend(kinds.map(|kind| (format!("entry of kind {kind} read"), self.read.contains_key(&kind))));
                 let clauses = Clause::ALL.iter().map(|clause| clause.says());
                 checks.extend(clauses.map(|says| (format!("broken alone: {says}"), self.alone.contains_key(says))));
                 let later = later().into_iter().map(|key| (format!("frame {key}"), self.later.contains_key(&key)));
@@ -68,7 +72,7 @@ impl Tally {
         checks.into_iter().filter(|check| !check.1).map(|check| check.0).collect()
     }
 
-    /// What every target should reach: entries, refusals, counts of outcomes, balances at either end.
+    /// What every target should reach: entries, refusals, counts of outcomes, reasons, balances at either end.
     fn common(&self, target: Target) -> Vec<(String, bool)> {
         let refusals: &[u32] = match target {
             Target::Program | Target::Kept | Target::Shared => &[1, 2, 3, 6, 7, 8, 9, 10, 11],
@@ -79,6 +83,7 @@ impl Tally {
         checks.extend(refusals.iter().map(|n| (format!("refusal {n}"), self.refusals.contains_key(n))));
         let counts = (0..=7).map(|u| 1 << u).chain([0]);
         checks.extend(counts.map(|n| (format!("{n} outcomes"), self.outcomes.contains_key(&n))));
+        checks.extend((1..=4).map(|n| (format!("reason {n}"), self.reasons.contains_key(&n))));
         checks.push(("a balance of 0".into(), self.emptied > 0));
         checks.push(("a balance of 1,000,000".into(), self.filled > 0));
         checks

@@ -1,7 +1,7 @@
 //! The register: sixteen accounts, the call, the single step, the outcome question.
 
 use crate::account::{Account, AccountRules};
-use crate::entry::Entry;
+use crate::entry::{Entry, EntryRules};
 use crate::event::{EventRules, State};
 use crate::image::Image;
 use crate::limits::{ACCOUNTS, ROOM};
@@ -30,7 +30,7 @@ pub struct Taken {
 }
 
 /// The rules of a call (`docs/REGISTER.md`, 10 and 11.1).
-pub trait RegisterRules: AccountRules + OrderRules + MessageRules {
+pub trait RegisterRules: AccountRules + OrderRules + MessageRules + EntryRules {
     /// The room that every call asks for.
     fn room(&self) -> usize {
         ROOM
@@ -68,7 +68,7 @@ impl Register {
         let taken = rules.take(self, bytes, buffer.len())?;
         let mut written = 0;
         for entry in &taken.entries {
-            let (bytes, rest) = (entry.bytes(taken.account), &mut buffer[written..]);
+            let (bytes, rest) = (rules.write_entry(entry, taken.account), &mut buffer[written..]);
             let length = bytes.len().min(rest.len());
             rest[..length].copy_from_slice(&bytes[..length]);
             written += length;

@@ -34,10 +34,12 @@ fn print_tally(tally: &Tally) {
     print_counts("lines", &tally.lines);
     print_counts("refusals", &tally.refusals);
     print_counts("outcomes", &tally.outcomes);
+    print_counts("reasons", &tally.reasons);
     println!("  balances   0: {}, 1000000: {}", tally.emptied, tally.filled);
     if tally.longest > 0 {
-        println!("  calls of 315 bytes   {}", tally.longest);
+        println!("  calls of 323 bytes   {}", tally.longest);
     }
+    print_counts("entries read", &tally.read);
     print_counts("frames from 64 on", &tally.later);
     print_counts("runs", &tally.runs);
     print_counts("images", &tally.images);

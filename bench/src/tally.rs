@@ -1,7 +1,7 @@
 //! What the streams of a run reached, counted from the model's text.
 
 use crate::bytes::hex;
-use crate::entry::{Entry, EntryRules};
+use crate::entry::{Entry, EntryRules, REJECTED, UNEXPLAINED};
 use crate::exported::asked;
 use crate::image::Image;
 use crate::limits::{ACCOUNTS, LIMIT, LONGEST, ROOM};
@@ -21,10 +21,11 @@ use std::collections::BTreeMap;
 pub struct Tally {
     pub streams: u64,
     pub bytes: u64,
-    /// Lines by their first word; refusals by their number; outcomes weighed by their count.
+    /// Lines by their first word; refusals by their number; outcomes weighed by their count; rejections by their reason.
     pub lines: BTreeMap<String, u64>,
     pub refusals: BTreeMap<u32, u64>,
     pub outcomes: BTreeMap<u32, u64>,
+    pub reasons: BTreeMap<u32, u64>,
     /// Withdrawals applied down to 0, and deposits applied up to the limit.
     pub emptied: u64,
     pub filled: u64,
@@ -32,6 +33,8 @@ pub struct Tally {
     pub longest: u64,
     /// Calls on an account that breaks one clause of order and no other.
     pub alone: BTreeMap<&'static str, u64>,
+    /// Entries found by the entry reader, by their kind.
+    pub read: BTreeMap<u32, u64>,
     /// Answers to the frames from 64 on, by code and first words.
     pub later: BTreeMap<String, u64>,
     /// Runs by what they are lent, and those in which the room runs out.
@@ -63,9 +66,14 @@ impl Tally {
         count(&mut self.lines, words[0].to_string());
         match (target, words[0]) {
             (_, "refused") => count(&mut self.refusals, number(words[1])),
-            (Target::Program, "accepted" | "rejected" | "held") => count(&mut self.outcomes, number(words[6])),
+            (Target::Program, "accepted" | "held") => count(&mut self.outcomes, number(words[6])),
+            (Target::Program, "rejected") => {
+                count(&mut self.outcomes, number(words[6]));
+                count(&mut self.reasons, number(words[7]));
+            }
             (Target::Program, "applied") => self.applied(words[4], number(words[6])),
             (Target::Probe, "taken") => self.written(words[3]),
+            (Target::Probe, "entry") => count(&mut self.read, number(words[1])),
             _ => {}
         }
     }
@@ -187,7 +195,10 @@ impl Tally {
         let name = line.split(' ').next().unwrap_or_default();
         count(&mut self.lines, name.to_string());
         match *entry {
-            Entry::Voted { outcomes, .. } => count(&mut self.outcomes, u32::from(outcomes)),
+            Entry::Voted { outcomes, reason, .. } => {
+                count(&mut self.outcomes, u32::from(outcomes));
+                reason.into_iter().for_each(|reason| count(&mut self.reasons, u32::from(reason)));
+            }
             Entry::Applied { request, balance } => self.applied(request.event.name(), balance),
             Entry::Noted { .. } | Entry::Dropped { .. } => {}
         }
@@ -214,12 +225,14 @@ impl Lender for Counted<'_> {
     }
 
     fn line(&mut self, entry: &[u8], line: &mut [u8], _: &mut [u64]) -> u64 {
-        let read = Document.read_entry(entry).is_some();
-        let name = match (read, line.len()) {
-            (false, _) => "no entry",
-            (true, ..67) => "line with room below 67",
-            (true, 67) => "line with room 67",
-            (true, _) => "a line",
+        let kind = Document.read_entry(entry).map(|(entry, ..)| entry.kind());
+        let name = match (kind, line.len()) {
+            (None, _) => "no entry",
+            (Some(_), ..71) => "line with room below 71",
+            (Some(_), 71) => "line with room 71",
+            (Some(UNEXPLAINED), _) => "a rejection's line without a reason",
+            (Some(REJECTED), _) => "a rejection's line",
+            (Some(_), _) => "a line",
         };
         count(&mut self.0.images, name);
         0
@@ -249,10 +262,10 @@ fn count<K: Ord>(counts: &mut BTreeMap<K, u64>, key: K) {
 fn room_name(room: usize) -> &'static str {
     match room {
         0 => "room 0",
-        1..=313 => "room below 314",
-        314 => "room 314",
-        315 => "room 315",
-        _ => "room above 315",
+        1..=321 => "room below 322",
+        322 => "room 322",
+        323 => "room 323",
+        _ => "room above 323",
     }
 }
 

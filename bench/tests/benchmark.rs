@@ -1,7 +1,7 @@
 //! The benchmark's streams do what their names say.
 
 use independent::contention::{simulate, Outcome, Pattern, Setting};
-use independent::entry::{EntryRules, HELD};
+use independent::entry::{Entry, EntryRules};
 use independent::measure::{agree, Runner};
 use independent::rules::Document;
 use independent::run::run;
@@ -13,7 +13,7 @@ fn counts(messages: &[u8]) -> Vec<u32> {
     let mut rest = entries.as_slice();
     let mut counts = Vec::new();
     while let Some((entry, _, length)) = Document.read_entry(rest) {
-        counts.extend(entry.last().filter(|_| entry.kind() <= HELD));
+        counts.extend(entry.last().filter(|_| matches!(entry, Entry::Voted { .. })));
         rest = &rest[length..];
     }
     counts

@@ -42,7 +42,7 @@ fn places_in_the_sequence() {
     let text = program::text(&messages(words).concat(), &Document);
     let end = "accepted 1 0 100 withdraw 5 1\nnoted 1 0 100\napplied 1 0 100 withdraw 5 95\n\
                accepted 1 0 100 withdraw 5 1\ndropped 1 0 100 withdraw 5\n\
-               rejected 1 0 100 withdraw 200 1\naccepted 1 0 100 withdraw 1 1\nend 8 0\n";
+               rejected 1 0 100 withdraw 200 1 3\naccepted 1 0 100 withdraw 1 1\nend 8 0\n";
     assert!(text.ends_with(end), "{text}");
 }
 
@@ -52,7 +52,7 @@ fn abort_of_a_held_request() {
     let words = "open 1 100, commit 1, withdraw 2 60, withdraw 3 50, deposit 4 1, withdraw 5 200, withdraw 6 45, \
                  deposit 7 1, abort 3";
     let text = program::text(&messages(words).concat(), &Document);
-    let end = "dropped 3 0 100 withdraw 50\naccepted 4 0 100 deposit 1 2\nrejected 5 0 100 withdraw 200 4\nend 9 0\n";
+    let end = "dropped 3 0 100 withdraw 50\naccepted 4 0 100 deposit 1 2\nrejected 5 0 100 withdraw 200 4 3\nend 9 0\n";
     assert!(text.ends_with(end), "{text}");
 }
 

@@ -52,14 +52,14 @@ fn stops() {
 /// With room for one call and the 18 bytes of the first, the second is taken and the third refused with 4.
 #[test]
 fn room_runs_out() {
-    let text = text(&asked(333, 4, "open 1 5, commit 1, withdraw 2 1"));
+    let text = text(&asked(341, 4, "open 1 5, commit 1, withdraw 2 1"));
     let lines: Vec<&str> = text.lines().collect();
     assert_eq!(lines.len(), 2 * 14);
     for (run, fill) in [(&lines[..14], "a5"), (&lines[14..], "5a")] {
         assert_eq!(run[..3], ["returned 49", "counts 3 1 41 49", "kept"]);
         assert_eq!(run[3], "1100000001000000000064010000000500011400000001000000000064150000");
         assert_eq!(run[4], "0001000000000064010000000500000005".to_string() + &fill.repeat(15));
-        assert_eq!(run[13], fill.repeat(13));
+        assert_eq!(run[13], fill.repeat(21));
     }
 }
 

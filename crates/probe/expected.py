@@ -33,7 +33,7 @@ def message(kind, transaction, account, second, amount=None):
     return head if amount is None else head + number(amount, 4)
 
 
-def call(sent, *words, room=315):
+def call(sent, *words, room=323):
     case(1, number(room, 2) + sent, *words)
 
 
@@ -115,14 +115,44 @@ call(message(COMMIT, 1, 16, 0)[:10], "refused 1 kept")
 call(message(OPEN, 1, 0, 0, 0)[:14], "refused 1 kept")
 call(message(OPEN, 1, 16, 0, 0), "refused 3 kept", room=0)
 call(message(OPEN, 1, 15, 0, 0), "refused 4 kept", room=0)
-call(message(OPEN, 1, 15, 0, 0), "refused 4 kept", room=314)
-call(message(DEPOSIT, 1, 15, 0, 5) + b"\1\2", "taken 15 18", hexed("12 00000001 000f 00000000 03 00000005 0001"), "kept")
-call(message(CLOSE, 1, 15, 0) + b"\1\2", "taken 11 18", hexed("12 00000001 000f 00000000 04 00000000 0001"), "kept")
-call(message(OPEN, 1, 15, 0, 1_000_001), "taken 15 18", hexed("12 00000001 000f 00000000 01 000f4241 0001"), "kept", room=1024)
+call(message(OPEN, 1, 15, 0, 0), "refused 4 kept", room=322)
+call(message(DEPOSIT, 1, 15, 0, 5) + b"\1\2", "taken 15 19", hexed("17 00000001 000f 00000000 03 00000005 0001 01"), "kept")
+call(message(CLOSE, 1, 15, 0) + b"\1\2", "taken 11 19", hexed("17 00000001 000f 00000000 04 00000000 0001 01"), "kept")
+call(message(OPEN, 1, 15, 0, 1_000_001), "taken 15 19", hexed("17 00000001 000f 00000000 01 000f4241 0001 04"), "kept", room=1024)
 call(message(OPEN, 1, 15, 0, 0), "unknown", room=1025)
 case(1, b"\1", "unknown")
 case(1, b"", "unknown")
 show(15, "account new 0 0 0")
+
+# The reasons of rejections, on account 5: new (1, also for an amount of 0; 4 for an Open), then opened with 100 (1 to 4).
+call(message(WITHDRAW, 1, 5, 7, 0), "taken 15 19", hexed("17 00000001 0005 00000007 02 00000000 0001 01"), "kept")
+call(message(OPEN, 1, 5, 7, HIGHEST), "taken 15 19", hexed("17 00000001 0005 00000007 01 ffffffff 0001 04"), "kept")
+disturb(5, LIFE, 0, 1)
+disturb(5, BALANCE, 0, 100)
+call(message(OPEN, 1, 5, 7, HIGHEST), "taken 15 19", hexed("17 00000001 0005 00000007 01 ffffffff 0001 01"), "kept")
+call(message(WITHDRAW, 1, 5, 7, 0), "taken 15 19", hexed("17 00000001 0005 00000007 02 00000000 0001 02"), "kept")
+call(message(DEPOSIT, 1, 5, 7, 0), "taken 15 19", hexed("17 00000001 0005 00000007 03 00000000 0001 02"), "kept")
+call(message(WITHDRAW, 1, 5, 7, 101), "taken 15 19", hexed("17 00000001 0005 00000007 02 00000065 0001 03"), "kept")
+call(message(WITHDRAW, 1, 5, 7, HIGHEST), "taken 15 19", hexed("17 00000001 0005 00000007 02 ffffffff 0001 03"), "kept")
+call(message(DEPOSIT, 1, 5, 7, 999_901), "taken 15 19", hexed("17 00000001 0005 00000007 03 000f41dd 0001 04"), "kept")
+
+# A Close undecided: outcome 0 is opened (3), the other closed. Withdraw 1 is held, 101 behind it; committed, the Close makes both 1.
+call(message(CLOSE, 1, 5, 7), "taken 11 18", hexed("11 00000001 0005 00000007 04 00000000 0001"), "kept")
+call(message(WITHDRAW, 2, 5, 7, 101), "taken 15 19", hexed("17 00000002 0005 00000007 02 00000065 0002 03"), "kept")
+call(message(WITHDRAW, 2, 5, 7, 1), "taken 15 18", hexed("13 00000002 0005 00000007 02 00000001 0002"), "kept")
+call(message(WITHDRAW, 3, 5, 7, 101), "taken 15 18", hexed("13 00000003 0005 00000007 02 00000065 0000"), "kept")
+call(
+    message(COMMIT, 1, 5, 8),
+    "taken 11 69",
+    hexed(
+        "14 00000001 0005 00000008"
+        " 15 00000001 0005 00000007 04 00000000 00000000"
+        " 17 00000002 0005 00000007 02 00000001 0001 01"
+        " 17 00000003 0005 00000007 02 00000065 0001 01"
+    ),
+    "kept",
+)
+show(5, "account closed 0 0 0")
 
 # Account 1, opened with 100 by frame 5: cases 14.5 and 14.6, with second 7 in the requests and 8 in the commits.
 disturb(1, LIFE, 0, 1)
@@ -170,17 +200,17 @@ show(
 call(message(ABORT, 4, 1, 9), "taken 11 16", hexed("16 00000004 0001 00000007 04 00000000"), "kept")
 call(
     message(ABORT, 1, 1, 9),
-    "taken 11 162",
+    "taken 11 168",
     hexed(
         "16 00000001 0001 00000007 02 0000003c"
         " 15 00000002 0001 00000007 02 00000028 0000003c"
         " 11 00000003 0001 00000007 02 00000001 0001"
-        " 12 00000005 0001 00000007 02 00000064 0002"
-        " 12 00000006 0001 00000007 02 00000064 0002"
-        " 12 00000007 0001 00000007 02 00000064 0002"
-        " 12 00000008 0001 00000007 02 00000064 0002"
-        " 12 00000009 0001 00000007 02 00000064 0002"
-        " 12 0000000a 0001 00000007 02 00000064 0002"
+        " 17 00000005 0001 00000007 02 00000064 0002 03"
+        " 17 00000006 0001 00000007 02 00000064 0002 03"
+        " 17 00000007 0001 00000007 02 00000064 0002 03"
+        " 17 00000008 0001 00000007 02 00000064 0002 03"
+        " 17 00000009 0001 00000007 02 00000064 0002 03"
+        " 17 0000000a 0001 00000007 02 00000064 0002 03"
     ),
     "kept",
 )
@@ -195,7 +225,7 @@ order(2, "order yes")
 disturb(2, BALANCE, 200, 1_000_001)
 order(2, "order no")
 call(message(OPEN, 1, 2, 7, 100), "refused 5 kept")
-call(message(OPEN, 1, 2, 7, 100), "refused 4 kept", room=314)
+call(message(OPEN, 1, 2, 7, 100), "refused 4 kept", room=322)
 call(message(COMMIT, 1, 2, 7), "refused 5 kept")
 outcome(2, 1, "refused 5")
 disturb(2, PROGRESSING, 16, 264)
@@ -294,9 +324,14 @@ entry("13 00000001 0002 00000003 04 00000000 0000", "entry 19 1 2 3 4 0 0 18")
 entry("14 00000001 0002 00000003", "entry 20 1 2 3 11")
 entry("15 00000001 0002 00000003 03 00000004 ffffffff", "entry 21 1 2 3 3 4 4294967295 20")
 entry("16 00000001 0002 00000003 04 00000000", "entry 22 1 2 3 4 0 16")
+entry("17 00000001 0002 00000003 01 00000004 0005 06", "entry 23 1 2 3 1 4 5 6 19")
+entry("17 ffffffff 000f ffffffff 02 ffffffff ffff ff 00", "entry 23 4294967295 15 4294967295 2 4294967295 65535 255 19")
+entry("17 00000001 0002 00000003 04 00000000 0001 00", "entry 23 1 2 3 4 0 1 0 19")
 entry("", "none")
 entry("10 00000001 0002 00000003 01 00000004 0005", "none")
 entry("17 00000001 0002 00000003 01 00000004 0005", "none")
+entry("17 00000001 0002 00000003 04 00000001 0005 01", "none")
+entry("18 00000001 0002 00000003 01 00000004 0005 06", "none")
 entry("11 00000001 0010 00000003 01 00000004 0005", "none")
 entry("11 00000001 0002 00000003 00 00000004 0005", "none")
 entry("11 00000001 0002 00000003 05 00000004 0005", "none")
@@ -309,6 +344,9 @@ entry("16 00000001 0002 00000003 04 000000", "none")
 # An entry's line of text: names and order of fields as in clause 12.4.
 text("11 00000001 0000 00000064 01 00000064 0001", "accepted 1 0 100 open 100 1")
 text("12 00000001 000f 00000000 03 00000005 0080", "rejected 1 15 0 deposit 5 128")
+text("12 00000001 000f 00000000 03 00000005 0080 04", "rejected 1 15 0 deposit 5 128")
+text("17 00000001 000f 00000000 03 00000005 0080 04 ff", "rejected 1 15 0 deposit 5 128 4")
+text("17 ffffffff 000f ffffffff 02 ffffffff ffff 00", "rejected 4294967295 15 4294967295 withdraw 4294967295 65535 0")
 text("13 00000003 0000 00000064 02 0000003c 0002 ff", "held 3 0 100 withdraw 60 2")
 text("14 00000003 0000 00000064", "noted 3 0 100")
 text("15 00000003 0000 00000064 02 0000003c 00000028", "applied 3 0 100 withdraw 60 40")
@@ -326,7 +364,7 @@ step(3, OPEN, 2, 3, 5, "refused 6 0")
 step(3, COMMIT, 2, 3, 5, "refused 9 0")
 step(3, ABORT, 3, 3, 5, "refused 8 0")
 show(3, "account new 0 1 2 0=1:2:1:5:u 8=2:3:2:4:u 9=4:3:2:9:u")
-step(3, COMMIT, 1, 7, 5, "taken 4 0=20:1:7 1=21:1:2:1:5:5 2=17:2:3:2:4:1 3=18:4:3:2:9:2")
+step(3, COMMIT, 1, 7, 5, "taken 4 0=20:1:7 1=21:1:2:1:5:5 2=17:2:3:2:4:1 3=23:4:3:2:9:2:3")
 step(3, ABORT, 2, 8, 5, "taken 1 0=22:2:3:2:4")
 step(3, CLOSE, 0, 0, 5, "taken 1 0=17:0:0:4:0:1")
 step(3, COMMIT, 0, 0, 5, "taken 2 1=21:0:0:4:0:0")
@@ -375,13 +413,13 @@ run(b"\0", "ran 1 1 0 0 - kept")
 run(message(CLOSE, 1, 16, 5) + first + first, "ran 3 2 41 18", first_entry, "kept")
 run(message(CLOSE, 1, 16, 5) + message(ABORT, 1, 0, 5)[:10], "ran 2 2 11 0 - kept", room=0)
 
-# Room of 314 bytes and of 315; room that runs out after the first message, and after the second.
+# Room of 322 bytes and of 323; room that runs out after the first message, and after the second.
 committed = hexed("14 00000001 000f 00000006 15 00000001 000f 00000005 01 00000007 00000007")
-run(first, "ran 1 1 15 0 - kept", room=314)
-run(first, "ran 1 0 15 18", first_entry, "kept", room=315)
-run(first + message(COMMIT, 1, 15, 6), "ran 2 1 26 18", first_entry, "kept", room=332)
-run(first + message(COMMIT, 1, 15, 6), "ran 2 0 26 49", first_entry + committed, "kept", room=333)
-run(first + message(COMMIT, 1, 15, 6) + message(CLOSE, 2, 15, 7), "ran 3 1 37 49", first_entry + committed, "kept", room=333)
+run(first, "ran 1 1 15 0 - kept", room=322)
+run(first, "ran 1 0 15 18", first_entry, "kept", room=323)
+run(first + message(COMMIT, 1, 15, 6), "ran 2 1 26 18", first_entry, "kept", room=340)
+run(first + message(COMMIT, 1, 15, 6), "ran 2 0 26 49", first_entry + committed, "kept", room=341)
+run(first + message(COMMIT, 1, 15, 6) + message(CLOSE, 2, 15, 7), "ran 3 1 37 49", first_entry + committed, "kept", room=341)
 run(first, "unknown", room=1025)
 case(65, b"\1", "unknown")
 case(65, b"", "unknown")

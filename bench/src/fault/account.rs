@@ -3,7 +3,7 @@
 use super::list::{Fault, Wrong};
 use crate::account::{Account, AccountRules, Standing};
 use crate::entry::Entry;
-use crate::event::{Event, EventRules, Life, State};
+use crate::event::{Event, EventRules, Life, State, AMOUNT_ZERO, OTHER_LIFE, OVER_THE_LIMIT, TOO_FEW_STEPS};
 use crate::image::{Image, Place};
 use crate::limits::{LIMIT, PLACES};
 use crate::message::Message;
@@ -13,18 +13,32 @@ use crate::request::Request;
 use crate::rules::Document;
 
 impl EventRules for Wrong {
-    fn guard(&self, event: Event, state: State) -> bool {
-        let right = Document.guard(event, state);
-        let opened = state.life == Life::Opened;
-        match (self.0, event) {
-            (Fault::LimitOneShort, Event::Open(amount)) => right && amount < LIMIT,
-            (Fault::LimitOneShort, Event::Deposit(amount)) => right && state.balance + amount < LIMIT,
-            (Fault::WithdrawNeedsMore, Event::Withdraw(amount)) => right && state.balance > amount,
-            (Fault::AmountZeroTaken, Event::Withdraw(0) | Event::Deposit(0)) => opened,
-            (Fault::DepositWraps, Event::Deposit(1..)) => opened && self.effect(event, state).balance <= LIMIT,
-            (Fault::OpenOverLimit, Event::Open(_)) => state.life == Life::New,
-            (Fault::ClosedOpensAgain, Event::Open(amount)) => !opened && amount <= LIMIT,
-            (Fault::CloseNeedsEmpty, Event::Close) => right && state.balance == 0,
+    fn reason(&self, event: Event, state: State) -> Option<u8> {
+        let right = Document.reason(event, state);
+        let zero = matches!(event, Event::Withdraw(0) | Event::Deposit(0));
+        match (self.0, event, right) {
+            (Fault::LimitOneShort, Event::Open(LIMIT), None) => Some(OVER_THE_LIMIT),
+            (Fault::LimitOneShort, Event::Deposit(amount), None) if state.balance + amount == LIMIT => {
+                Some(OVER_THE_LIMIT)
+            }
+            (Fault::WithdrawNeedsMore, Event::Withdraw(amount), None) if state.balance == amount => Some(TOO_FEW_STEPS),
+            (Fault::AmountZeroTaken, _, Some(AMOUNT_ZERO)) => None,
+            (Fault::DepositWraps, Event::Deposit(_), Some(OVER_THE_LIMIT)) => {
+                right.filter(|_| self.effect(event, state).balance > LIMIT)
+            }
+            (Fault::OpenOverLimit, Event::Open(_), Some(OVER_THE_LIMIT)) => None,
+            (Fault::ClosedOpensAgain, Event::Open(_), Some(OTHER_LIFE)) if state.life == Life::Closed => {
+                Document.reason(event, State::FRESH)
+            }
+            (Fault::CloseNeedsEmpty, Event::Close, None) if state.balance > 0 => Some(TOO_FEW_STEPS),
+            (Fault::ZeroBeforeLife, _, Some(_)) if zero => Some(AMOUNT_ZERO),
+            (Fault::LimitBeforeLife, Event::Open(_), Some(_)) => {
+                Document.reason(event, State::FRESH).or(Some(OTHER_LIFE))
+            }
+            (Fault::TooFewForDeposit, Event::Deposit(_), Some(OVER_THE_LIMIT)) => Some(TOO_FEW_STEPS),
+            (Fault::LimitForWithdraw, Event::Withdraw(amount), Some(TOO_FEW_STEPS)) if amount > LIMIT => {
+                Some(OVER_THE_LIMIT)
+            }
             _ => right,
         }
     }
@@ -67,6 +81,23 @@ impl AccountRules for Wrong {
                 vote(&[outcomes[0], outcomes[outcomes.len() - 1]], |state| self.guard(event, state))
             }
             _ => vote(outcomes, |state| self.guard(event, state)),
+        }
+    }
+
+    fn given(&self, account: &Account, event: Event) -> Option<u8> {
+        let outcomes = account.outcomes();
+        let first = self.reason(event, *outcomes.first()?);
+        let reasons = || outcomes.iter().map(|state| self.reason(event, *state));
+        match self.0 {
+            Fault::ReasonOfAllApplied => reasons().next_back().flatten(),
+            Fault::ReasonOfNewestAlone => self.reason(event, outcomes[outcomes.len() / 2]),
+            Fault::ReasonOfFirstOther => reasons().find(|reason| *reason != first).unwrap_or(first),
+            Fault::ReasonLowest => reasons().min().flatten(),
+            Fault::ReasonHighest => reasons().max().flatten(),
+            Fault::ReasonWithoutCommitted => self.reason(event, account.image().state).or(Some(0)),
+            Fault::ReasonZero => Some(0),
+            Fault::OldKindWritten => None,
+            _ => first,
         }
     }
 
@@ -163,8 +194,7 @@ impl AccountRules for Wrong {
             }
         }
         if self.0 == Fault::EntryForStaying && !self.full(account) {
-            let (vote, outcomes) = (Vote::Held, self.count(account));
-            entries.extend(account.held().next().map(|request| Entry::Voted { vote, request: *request, outcomes }));
+            entries.extend(account.held().next().map(|request| account.voted(Vote::Held, *request, self)));
         }
     }
 

@@ -1,10 +1,11 @@
 //! What wrong versions do otherwise in the readers and the writer.
 
 use super::list::{Fault, Wrong};
-use crate::entry::{Entry, EntryRules, NOTED};
+use crate::entry::{Entry, EntryRules, NOTED, REJECTED, UNEXPLAINED};
 use crate::event::Event;
 use crate::limits::ACCOUNTS;
 use crate::message::{length, Message, MessageRules, HEAD};
+use crate::outcomes::Vote;
 use crate::rules::Document;
 
 impl MessageRules for Wrong {
@@ -43,12 +44,38 @@ impl MessageRules for Wrong {
 }
 
 impl EntryRules for Wrong {
+    fn write_entry(&self, entry: &Entry, account: u16) -> Vec<u8> {
+        let mut bytes = Document.write_entry(entry, account);
+        if self.0 == Fault::ReasonBeforeCount && bytes[0] == REJECTED {
+            bytes[16..].rotate_right(1);
+        }
+        bytes
+    }
+
+    fn entry_line(&self, entry: &Entry, account: u16) -> String {
+        let line = Document.entry_line(entry, account);
+        let mut words: Vec<&str> = line.split(' ').collect();
+        match (self.0, entry.kind()) {
+            (Fault::LineReasonFirst, REJECTED) => words.swap(6, 7),
+            (Fault::LineWithoutReason, REJECTED) => words.truncate(7),
+            _ => {}
+        }
+        words.join(" ")
+    }
+
     fn read_entry(&self, bytes: &[u8]) -> Option<(Entry, u16, usize)> {
         let mut read = bytes.to_vec();
         if self.0 == Fault::EntryCloseAmount && read.len() >= 16 && read[0] != NOTED && read[11] == Event::Close.kind()
         {
             read[12..16].fill(0);
         }
-        Document.read_entry(&read)
+        let (mut entry, account, length) = Document.read_entry(&read)?;
+        match (self.0, &mut entry) {
+            (Fault::OldKindUnread, entry) if entry.kind() == UNEXPLAINED => return None,
+            (Fault::ReasonChecked, Entry::Voted { reason: Some(0 | 5..), .. }) => return None,
+            (Fault::OldKindAsNew, Entry::Voted { vote: Vote::Rejected, reason, .. }) => *reason = reason.or(Some(0)),
+            _ => {}
+        }
+        Some((entry, account, length))
     }
 }

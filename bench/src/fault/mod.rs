@@ -5,6 +5,7 @@ mod account;
 mod codec;
 mod call;
 mod image;
+mod memory;
 mod text;
 
 pub use list::{Fault, Wrong};

@@ -2,15 +2,16 @@
 
 use super::call::unused;
 use super::list::{Fault, Wrong};
+use super::memory::{Kept, Remembers};
 use crate::entry::EntryRules;
 use crate::exported::{self, told};
 use crate::image::Place;
 use crate::limits::LONGEST;
 use crate::order::{broken, Clause};
 use crate::probe::{self, frame, ProbeRules};
-use crate::program;
 use crate::register::Register;
 use crate::rules::Rules;
+use crate::{live, program};
 
 impl ProbeRules for Wrong {
     fn frame(&self, register: &mut Register, code: u8, payload: &[u8]) -> Option<String> {
@@ -54,6 +55,9 @@ impl ProbeRules for Wrong {
 
 impl Rules for Wrong {
     fn program_text(&self, input: &[u8]) -> String {
+        if self.0 == Fault::ReasonFromHolding {
+            return Remembers(&Kept::default()).program_text(input);
+        }
         if self.0 == Fault::TooLongEarly && input.len() == LONGEST {
             return "register 1\ntoo long\n".into();
         }
@@ -61,6 +65,9 @@ impl Rules for Wrong {
     }
 
     fn probe_text(&self, input: &[u8]) -> String {
+        if self.0 == Fault::ReasonFromHolding {
+            return Remembers(&Kept::default()).probe_text(input);
+        }
         if self.0 == Fault::TooLongEarly && input.len() == LONGEST {
             return "probe 1\ntoo long\n".into();
         }
@@ -73,7 +80,17 @@ impl Rules for Wrong {
         }
     }
 
+    fn live_text(&self, input: &[u8]) -> String {
+        match self.0 {
+            Fault::ReasonFromHolding => Remembers(&Kept::default()).live_text(input),
+            _ => live::text(input, self),
+        }
+    }
+
     fn exported_text(&self, input: &[u8]) -> String {
+        if self.0 == Fault::ReasonFromHolding {
+            return Remembers(&Kept::default()).exported_text(input);
+        }
         let mut kept = Register::fresh();
         told(input, |messages, entries, counts| {
             let fewer = self.0 == Fault::FourPlacesOrNone && counts.len() < 4;

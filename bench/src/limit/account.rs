@@ -53,7 +53,7 @@ impl Account {
             Vote::Rejected => {}
             Vote::Held => self.hold(request),
         }
-        writer.voted(vote, request, outlook.count());
+        writer.weighed(vote, request, outlook);
         Ok(())
     }
 
@@ -126,7 +126,7 @@ impl Account {
             if vote == Vote::Held {
                 break;
             }
-            writer.voted(vote, request, outlook.count());
+            writer.weighed(vote, request, &outlook);
             if vote == Vote::Accepted {
                 self.admit(request);
                 outlook.take_up(request);

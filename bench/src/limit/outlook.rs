@@ -16,24 +16,25 @@ pub const CLOSED: u8 = 4;
 #[derive(Clone, Copy, PartialEq, Eq, Debug)]
 pub enum Vote {
     Accepted = 17,
-    Rejected = 18,
+    Rejected = 23,
     Held = 19,
 }
 
-/// Which lives occur among the outcomes, the lowest and the highest balance of the opened ones, and how many events are
-/// open to choice.
+/// Which lives occur among the outcomes, the lowest and the highest balance of the opened ones, how many events are open
+/// to choice, and the life where none of these is applied.
 #[derive(Clone, Copy, PartialEq, Eq, Debug)]
 pub struct Outlook {
     pub lives: u8,
     pub lowest: u32,
     pub highest: u32,
     pub undecided: u32,
+    pub life: u8,
 }
 
 impl Outlook {
     /// The one outcome of an account with nothing in progress.
     pub fn of(life: u8, balance: u32) -> Outlook {
-        Outlook { lives: life, lowest: balance, highest: balance, undecided: 0 }
+        Outlook { lives: life, lowest: balance, highest: balance, undecided: 0, life }
     }
 
     /// The number of outcomes.
@@ -61,6 +62,21 @@ impl Outlook {
         }
     }
 
+    /// The reason of a rejection: the first that applies where nothing open to choice is applied. The guard is false
+    /// there too, so that the life and the amount tell which part of it is.
+    pub fn reason(&self, place: Place) -> u8 {
+        let asked = if place.event() == OPEN { NEW } else { OPENED };
+        if self.life != asked {
+            1
+        } else if place.amount() == 0 {
+            2
+        } else if place.event() == WITHDRAW {
+            3
+        } else {
+            4
+        }
+    }
+
     /// Takes up an event: applied where it is committed, else applied or not. Says whether its guard fails nowhere;
     /// where it fails in an outcome, the outlook says nothing any more.
     pub fn take_up(&mut self, place: Place) -> bool {
@@ -81,10 +97,12 @@ impl Outlook {
             }
             OPEN => {
                 (self.lives, self.lowest, self.highest) = (left | OPENED, amount, amount);
+                self.life = if left == 0 { OPENED } else { before.life };
                 before.lives == NEW && amount <= LIMIT
             }
             _ => {
                 self.lives = left | CLOSED;
+                self.life = if left == 0 { CLOSED } else { before.life };
                 before.lives == OPENED
             }
         }

@@ -1,6 +1,6 @@
 //! The entries of one call, written where they belong.
 
-use super::outlook::Vote;
+use super::outlook::{Outlook, Vote};
 use super::place::{Place, OPEN};
 use crate::limits::ROOM;
 
@@ -30,6 +30,14 @@ impl Writer<'_> {
     pub fn voted(&mut self, vote: Vote, request: Place, count: u16) {
         self.put(&request.bytes(vote as u8, self.account));
         self.put(&count.to_be_bytes());
+    }
+
+    /// The vote on a request that was weighed; the reason stands last in a rejection.
+    pub fn weighed(&mut self, vote: Vote, request: Place, outlook: &Outlook) {
+        self.voted(vote, request, outlook.count());
+        if vote == Vote::Rejected {
+            self.put(&[outlook.reason(request)]);
+        }
     }
 
     /// A commit noted, with the commit's own second: the first eleven bytes of what any event would have.

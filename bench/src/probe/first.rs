@@ -9,12 +9,7 @@ use crate::message::{Head, Message, MessageRules};
 use crate::register::{Register, RegisterRules};
 
 /// The line of a frame, none where it is unknown.
-pub fn answer(
-    register: &mut Register,
-    code: u8,
-    payload: &[u8],
-    rules: &(impl RegisterRules + EntryRules),
-) -> Option<String> {
+pub fn answer(register: &mut Register, code: u8, payload: &[u8], rules: &impl RegisterRules) -> Option<String> {
     let mut numbers = Numbers { bytes: payload };
     match (code, payload.len()) {
         (1, 2..) => call(register, numbers.next(2), numbers.bytes, rules),

@@ -8,12 +8,7 @@ use crate::register::{Register, RegisterRules};
 use crate::run::{Ran, RunRules};
 
 /// The line of a frame, none where it is unknown.
-pub fn answer(
-    register: &mut Register,
-    code: u8,
-    payload: &[u8],
-    rules: &(impl RunRules + EntryRules),
-) -> Option<String> {
+pub fn answer(register: &mut Register, code: u8, payload: &[u8], rules: &impl RunRules) -> Option<String> {
     let mut numbers = Numbers { bytes: payload };
     match (code, payload.len()) {
         (64, 2) => order(register, numbers.next(2), rules),
@@ -40,7 +35,7 @@ fn run(room: u32, messages: &[u8], rules: &impl RunRules) -> Option<String> {
 
 /// Frame 67: the line of text of an entry.
 fn line(bytes: &[u8], rules: &impl EntryRules) -> String {
-    rules.read_entry(bytes).map_or("none".into(), |(entry, account, _)| entry.line(account))
+    rules.read_entry(bytes).map_or("none".into(), |(entry, account, _)| rules.entry_line(&entry, account))
 }
 
 /// Frame 68: a single step of an account.

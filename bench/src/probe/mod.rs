@@ -6,13 +6,12 @@ mod later;
 
 pub use lent::WIDEST;
 
-use crate::entry::EntryRules;
 use crate::limits::LONGEST;
 use crate::register::Register;
 use crate::run::RunRules;
 
 /// Frames as a whole.
-pub trait ProbeRules: RunRules + EntryRules {
+pub trait ProbeRules: RunRules {
     /// The line of a frame, none where it is unknown.
     fn frame(&self, register: &mut Register, code: u8, payload: &[u8]) -> Option<String> {
         frame(register, code, payload, self)

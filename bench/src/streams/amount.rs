@@ -41,6 +41,30 @@ pub fn squeezing(random: &mut Random, account: &Account) -> Event {
     }
 }
 
+/// A request that every outcome rejects, for any reason; only an Open can be possible, where no outcome is opened.
+pub fn hopeless(random: &mut Random, account: &Account) -> Event {
+    let (lowest, highest) = span(account);
+    let more = random.pick(&[1, 1, 2, 50, LIMIT]);
+    match random.below(8) {
+        0 => Event::Open(more),
+        1 => Event::Open(LIMIT + more),
+        2 => Event::Withdraw(0),
+        3 => Event::Deposit(0),
+        4 | 5 => Event::Withdraw(highest + more),
+        _ => Event::Deposit(LIMIT - lowest + more),
+    }
+}
+
+/// A request that some outcome allows, mostly, where the lives of the outcomes differ.
+pub fn possible(random: &mut Random, account: &Account) -> Event {
+    let (_, highest) = span(account);
+    match random.below(3) {
+        0 if unopened(account) => Event::Open(1),
+        1 if highest > 0 => Event::Withdraw(random.between(1, highest.into()) as u32),
+        _ => Event::Deposit(1),
+    }
+}
+
 /// A request with an amount on one side of a line or the other.
 pub fn edge(random: &mut Random, account: &Account) -> Event {
     let (lowest, highest) = span(account);
@@ -57,6 +81,12 @@ pub fn edge(random: &mut Random, account: &Account) -> Event {
     } else {
         of(kind, amount)
     }
+}
+
+/// Whether the lives of the outcomes differ: an Open or a Close is undecided.
+pub fn lives_differ(account: &Account) -> bool {
+    let states = account.outcomes();
+    states.iter().any(|state| state.life != states[0].life)
 }
 
 /// The lowest and the highest balance among the outcomes.

@@ -9,7 +9,7 @@ use crate::run::run;
 use crate::streams::frames::Frames;
 use crate::streams::messages::at_random;
 
-const ROOMS: [usize; 14] = [0, 1, 10, 11, 14, 15, 100, 314, 314, 315, 315, 316, WIDEST, WIDEST + 1];
+const ROOMS: [usize; 14] = [0, 1, 10, 11, 14, 15, 100, 322, 322, 323, 323, 324, WIDEST, WIDEST + 1];
 /// Codes, and lengths of payloads that fit those which are listed.
 const FITTING: [(u8, usize); 19] = [
     (1, 2),
@@ -24,7 +24,7 @@ const FITTING: [(u8, usize); 19] = [
     (64, 2),
     (65, 2),
     (65, 28),
-    (67, 18),
+    (67, 19),
     (68, 15),
     (0, 0),
     (8, 0),
@@ -99,16 +99,20 @@ fn an_entry(random: &mut Random) -> Vec<u8> {
         let messages: Vec<u8> = (0..6).flat_map(|_| at_random(random)).collect();
         return run(&messages, &Document).entries;
     }
-    let kind = random.between(17, 22) as u8;
+    let kind = random.pick(&[17, 18, 18, 19, 20, 21, 22, 23, 23]);
     let mut bytes = vec![kind];
     bytes.extend(random.bytes(4));
-    bytes.extend(random.pick(&ACCOUNT_EDGES).to_be_bytes());
+    let account = if random.chance(60) { random.below(16) as u16 } else { random.pick(&ACCOUNT_EDGES) };
+    bytes.extend(account.to_be_bytes());
     bytes.extend(random.bytes(4));
-    let event = random.pick(&[1, 2, 3, 4, 4, 4, 0, 5, 7, 255]);
+    let event = random.pick(&[1, 2, 3, 1, 2, 3, 4, 4, 4, 0, 5, 7, 255]);
     bytes.push(event);
     let amount = if random.chance(60) { vec![0; 4] } else { random.bytes(4) };
     bytes.extend(amount);
-    bytes.extend(random.bytes(4));
+    bytes.extend(random.bytes(2));
+    let any = random.number() as u8;
+    bytes.push(random.pick(&[0, 1, 2, 3, 4, 5, any, any]));
+    bytes.push(any);
     bytes
 }
 

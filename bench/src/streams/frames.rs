@@ -91,7 +91,7 @@ impl Frames {
             let amount = if none { self.traffic.random.pick(&[0, 1, u32::MAX]) } else { message.amount() };
             self.single(&message, amount);
         } else {
-            let room = self.traffic.random.pick(&[ROOM, ROOM, ROOM, 316, 500, WIDEST]);
+            let room = self.traffic.random.pick(&[ROOM, ROOM, ROOM, ROOM + 1, 500, WIDEST]);
             self.call(room, &message.bytes());
         }
         self.look(message.head().account);

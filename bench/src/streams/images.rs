@@ -1,6 +1,7 @@
 //! Streams for the calls on an image: frames of `crate::live`, among them words of any content.
 
 use crate::bytes::Numbers;
+use crate::entry::{self, REJECTED, UNEXPLAINED};
 use crate::limits::{ACCOUNTS, PLACES, ROOM};
 use crate::live::{MOST_ROOM, WORDS};
 use crate::probe::split;
@@ -154,16 +155,21 @@ impl Images {
         let (mut at, written) = (0, taken.map_or(0, |taken| taken.1));
         while at < written {
             let mut entry = buffer[at..written].to_vec();
-            at += crate::entry::kind(entry[0]).map_or(written, |kind| kind.1);
+            at += entry::kind(entry[0]).map_or(written, |kind| kind.1);
+            if entry[0] == REJECTED && self.random().chance(40) {
+                // the same rejection in the older kind, or one with another reason
+                let reason = self.random().number() as u8;
+                (entry[0], entry[18]) = self.random().pick(&[(UNEXPLAINED, entry[18]), (REJECTED, reason)]);
+            }
             if self.random().chance(20) {
                 let spoilt = self.random().below(entry.len() as u64) as usize;
-                entry[spoilt] = self.random().pick(&[0, 1, 4, 15, 16, 17, 22, 255]);
+                entry[spoilt] = self.random().pick(&[0, 1, 4, 15, 16, 17, 18, 22, 23, 255]);
             }
             if self.random().chance(10) {
                 let left = self.random().below(entry.len() as u64) as usize;
                 entry.truncate(left);
             }
-            let room = self.random().pick(&[0, 67, 68, 68, 68, 69, 100]) as u16;
+            let room = self.random().pick(&[0, 68, 71, 72, 72, 72, 73, 100]) as u16;
             let places = self.random().pick(&[0, 1, 2, 2, 3]);
             self.frames.frame(5, &[&room.to_be_bytes(), &[places], &entry]);
         }

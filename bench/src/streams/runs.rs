@@ -14,7 +14,7 @@ pub const KINDS: [&str; 6] = [
     "room enough",
     "room that runs out within",
     "room for one call",
-    "room of 314 bytes and less",
+    "room of 322 bytes and less",
     "room that the entries leave for one call more or not",
     "no messages, or arbitrary bytes",
 ];
@@ -35,7 +35,7 @@ pub fn stream(kind: usize, mut random: Random) -> Vec<u8> {
     let room = match kind {
         0 => entries + ROOM + random.below(200) as usize,
         1 => random.length(ROOM, ROOM.max(entries)),
-        2 => random.pick(&[ROOM, ROOM, ROOM + 1, ROOM + 17, ROOM + 18]),
+        2 => random.pick(&[ROOM, ROOM, ROOM + 1, ROOM + 17, ROOM + 18, ROOM + 19]),
         3 => random.pick(&[0, 1, 18, 100, ROOM - 1, ROOM - 1]),
         4 => (entries + ROOM).saturating_sub(random.below(40) as usize),
         _ => random.pick(&[0, ROOM - 1, ROOM, 1_000, 5_000]),

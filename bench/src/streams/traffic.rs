@@ -7,7 +7,7 @@ use crate::message::{Head, Message, ABORT, COMMIT};
 use crate::random::Random;
 use crate::register::{Register, RegisterRules};
 use crate::rules::Document;
-use crate::streams::amount::{edge, small, squeezing, unopened};
+use crate::streams::amount::{edge, hopeless, lives_differ, possible, small, squeezing, unopened};
 
 /// What the next messages are after.
 #[derive(Clone, Copy, PartialEq, Eq, Debug)]
@@ -26,6 +26,10 @@ enum Mood {
     Wrong,
     /// Eight committed behind one undecided, eight held, then all at once.
     Longest,
+    /// The same with eight held that are rejected then.
+    LongestRejected,
+    /// Requests that no outcome allows, for reasons that may differ among the outcomes.
+    Reasons,
 }
 
 /// A source of messages, with the register that they have led to.
@@ -95,17 +99,21 @@ impl Traffic {
             }
             Mood::Pole => self.pole(at, &account),
             Mood::Wrong => self.wrong(at, &account),
-            Mood::Longest => self.longest(at, &account),
+            Mood::Longest => self.longest(at, &account, small),
+            Mood::LongestRejected => self.longest(at, &account, hopeless),
+            Mood::Reasons => self.reasons(at, &account),
         }
     }
 
     /// Chooses the next mood and the account it is for.
     fn turn(&mut self) {
-        let moods = [Mood::Fill, Mood::Squeeze, Mood::Decide, Mood::Edge, Mood::Pole, Mood::Wrong, Mood::Longest];
+        let longest = self.random.pick(&[Mood::Longest, Mood::LongestRejected]);
+        let moods =
+            [Mood::Fill, Mood::Squeeze, Mood::Decide, Mood::Edge, Mood::Pole, Mood::Wrong, Mood::Reasons, longest];
         self.mood = self.random.pick(&moods);
         self.left = match self.mood {
-            Mood::Fill | Mood::Squeeze => self.random.between(4, 24),
-            Mood::Longest => 34,
+            Mood::Fill | Mood::Squeeze | Mood::Reasons => self.random.between(4, 24),
+            Mood::Longest | Mood::LongestRejected => 34,
             Mood::Wrong => self.random.between(1, 5),
             _ => self.random.between(3, 16),
         };
@@ -122,6 +130,11 @@ impl Traffic {
     fn ended(&self, at: u16) -> bool {
         let account = self.register.account(usize::from(at));
         account.is_some_and(|account| account.outcomes().iter().all(|state| state.life == Life::Closed))
+    }
+
+    /// Whether three in four accounts and more are not closed for good.
+    fn many_last(&self) -> bool {
+        (0..ACCOUNTS as u16).filter(|at| self.ended(*at)).count() * 4 <= ACCOUNTS
     }
 
     /// Turns to filling the account, for so many messages.
@@ -213,8 +226,8 @@ impl Traffic {
         self.message(transaction, account_number, |head| of_kind(kind, head, amount))
     }
 
-    /// Eight in progress, eight held, commits from the newest to the oldest.
-    fn longest(&mut self, at: u16, account: &Account) -> Message {
+    /// Eight in progress, eight of the others held, commits from the newest to the oldest.
+    fn longest(&mut self, at: u16, account: &Account, other: fn(&mut Random, &Account) -> Event) -> Message {
         let undecided = account.with(Standing::Undecided);
         let held = account.with(Standing::Held).len();
         if unopened(account) {
@@ -223,9 +236,41 @@ impl Traffic {
         if let (PLACES, Some(newest)) = (held, undecided.last()) {
             return self.message(*newest, at, Message::Commit);
         }
-        let event = small(&mut self.random, account);
+        let full = account.progress().len() == PLACES;
+        let event = if full { other(&mut self.random, account) } else { small(&mut self.random, account) };
         let transaction = self.free(account);
         self.message(transaction, at, |head| Message::request(head, event))
+    }
+
+    /// A request that no outcome allows, mostly beside an Open or a Close that is undecided: there outcomes reject it for
+    /// different reasons. One that some outcome allows is held before it now and then, so that it is held too, and has
+    /// another reason on its turn.
+    fn reasons(&mut self, at: u16, account: &Account) -> Message {
+        let newest = account.with(Standing::Undecided).last().copied();
+        let held = account.with(Standing::Held).len();
+        let differ = lives_differ(account);
+        let decided = match (self.left, held) {
+            (0..2, _) => 90,
+            (_, 2..) => 30,
+            _ => 15,
+        };
+        if let (true, Some(newest)) = (differ, newest.filter(|_| self.random.chance(decided))) {
+            // A closed account rejects everything from then on: most are kept from it.
+            let closing = account.outcomes()[0].life == Life::Opened;
+            let commits = if closing { 15 } else { 60 };
+            let decision = if self.random.chance(commits) { Message::Commit } else { Message::Abort };
+            return self.message(newest, at, decision);
+        }
+        if held == PLACES {
+            return self.decide(at, account);
+        }
+        let event = match self.random.below(10) {
+            0..=2 if differ && held == 0 => possible(&mut self.random, account),
+            0..=3 if !differ && unopened(account) => small(&mut self.random, account),
+            0 if !differ && self.many_last() => Event::Close,
+            _ => hopeless(&mut self.random, account),
+        };
+        self.request(at, account, event)
     }
 
     /// A message of any kind and any numbers.

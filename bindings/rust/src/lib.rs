@@ -26,10 +26,14 @@ use std::error::Error;
 use std::fmt;
 
 /// The room that a call asks for in the entry buffer.
-pub const ROOM: usize = 315;
+pub const ROOM: usize = 323;
 
 /// The bytes of the longest line.
-pub const LONGEST_LINE: usize = 68;
+pub const LONGEST_LINE: usize = 72;
+
+/// The kind of a rejection, whose last byte is the reason; and the kind without it, which is read and never written.
+pub const REJECTED: u8 = 23;
+pub const REJECTED_BEFORE: u8 = 18;
 
 /// The words of an account, and of a register, as an image.
 pub const ACCOUNT_WORDS: usize = 84;
@@ -45,6 +49,10 @@ pub struct Taken {
 /// The number of a refusal, 1 to 12 (`docs/REGISTER.md`, 10.1). Nothing was changed.
 #[derive(Clone, Copy, PartialEq, Eq, Debug)]
 pub struct Refusal(u8);
+
+/// The reason of a rejection, 1 to 4 in those that the register writes (`docs/REGISTER.md`, 3.4).
+#[derive(Clone, Copy, PartialEq, Eq, Debug)]
+pub struct Reason(u8);
 
 /// What an account is.
 #[derive(Clone, Copy, PartialEq, Eq, Debug)]
@@ -141,6 +149,13 @@ pub fn line(entry: &[u8]) -> Option<(String, usize)> {
     (length > 0).then_some((text, counts[0] as usize))
 }
 
+/// The reason of the rejection that the bytes begin with; none where they begin with another entry, with a rejection
+/// that has none, or with no entry.
+pub fn reason(entry: &[u8]) -> Option<Reason> {
+    let (_, length) = line(entry)?;
+    (entry[0] == REJECTED).then(|| Reason(entry[length - 1]))
+}
+
 /// The lines of the entries that stand one behind the other from the beginning of the bytes on.
 pub fn lines(entries: &[u8]) -> impl Iterator<Item = String> + '_ {
     let mut rest = entries;
@@ -156,6 +171,25 @@ fn refusal(number: u64) -> Result<(), Refusal> {
     match number {
         0 => Ok(()),
         _ => Err(Refusal(number as u8)),
+    }
+}
+
+impl Reason {
+    /// The number.
+    pub fn number(self) -> u8 {
+        self.0
+    }
+}
+
+impl fmt::Display for Reason {
+    fn fmt(&self, f: &mut fmt::Formatter<'_>) -> fmt::Result {
+        f.write_str(match self.0 {
+            1 => "the account is not in the life that the event asks for",
+            2 => "the amount is 0",
+            3 => "fewer steps are left than are to be withdrawn",
+            4 => "the account would have more steps than 1,000,000",
+            _ => "unknown",
+        })
     }
 }
 

@@ -1,7 +1,7 @@
 //! A register that is kept, saved and asked.
 
 use nacozteya::{
-    call, line, lines, outlook, Life, Outlook, Refusal, Register, Taken, ACCOUNT_WORDS, REGISTER_WORDS, ROOM,
+    call, line, lines, outlook, reason, Life, Outlook, Refusal, Register, Taken, ACCOUNT_WORDS, REGISTER_WORDS, ROOM,
 };
 
 const OPEN: u8 = 1;
@@ -55,6 +55,7 @@ fn a_day() {
         text(&mut register, &message(COMMIT, 3, 2, 0)),
         Ok("noted 3 2 101\napplied 3 2 101 withdraw 60 40\n".into())
     );
+    assert_eq!(text(&mut register, &message(WITHDRAW, 5, 2, 41)), Ok("rejected 5 2 101 withdraw 41 1 3\n".into()));
     assert_eq!(text(&mut register, &message(CLOSE, 4, 2, 0)), Ok("accepted 4 2 101 close 0 1\n".into()));
 }
 
@@ -128,4 +129,14 @@ fn refusals_in_words() {
     let mut register = Register::new();
     let refusal = register.call(&message(COMMIT, 1, 0, 0), &mut [0; ROOM]).expect_err("nothing to commit");
     assert_eq!(refusal.to_string(), "refused with 8: the transaction is neither in progress nor held");
+}
+
+/// The reason of a rejection, in words; a rejection is taken, and no refusal.
+#[test]
+fn reasons_in_words() {
+    let mut entries = [0; ROOM];
+    let taken = Register::new().call(&message(WITHDRAW, 1, 0, 5), &mut entries);
+    assert_eq!(taken, Ok(Taken { consumed: 15, written: 19 }));
+    let words = reason(&entries).map(|reason| reason.to_string());
+    assert_eq!(words.as_deref(), Some("the account is not in the life that the event asks for"));
 }

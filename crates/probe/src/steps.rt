@@ -79,12 +79,13 @@ fn put_entries(entries: Entries, page: &mut Page, at: usize) -> usize {
 fn put_entry(entry: Entry, place: usize, page: &mut Page, at: usize) -> usize {
     let told = entry.told;
     let filed = entry.filed;
-    if (entry.transaction == 0) & filed.is_blank() & (entries::kind_of(told) == 20) {
+    let kind = entries::kind_of(told);
+    if (entry.transaction == 0) & filed.is_blank() & (kind == 20) {
         return at;
     }
     let end = page::count(page, at, place);
-    let end = page::part(page, end, b'=', entries::kind_of(told));
+    let end = page::part(page, end, b'=', kind as u32);
     let end = page::part(page, end, b':', entry.transaction);
     let end = filed::put(page, end, b':', filed);
-    entries::put_told(told, page, end, b':')
+    entries::put_told(told, kind, page, end, b':')
 }
