@@ -40,10 +40,10 @@ use Rattle.register.specs.declared.Register.{Register}
 use Rattle.register.specs.Register.{nowhere, accountAt, ruleMessage, freshBy}
 use Rattle.register.specs.Call.{Result, refusalOf, writtenOf, refusedWith, calledBy}
 use Rattle.register.specs.Fits.{EventFits, CommitFits, StateFits, BalanceFits}
-use Rattle.register.specs.Sequence.{Input, ByteStrings, after, exchanges, answerIn, seenOf, seenBy, entriesIn, OnlyEntries, EachOnlyEntries, SerialPast}
+use Rattle.register.specs.Sequence.{ruleEntry, Input, ByteStrings, after, exchanges, answerIn, seenOf, seenBy, entriesIn, OnlyEntries, EachOnlyEntries, SerialPast}
 use Rattle.register.proofs.Suits.{Suits}
 use Rattle.register.proofs.ReadAs.{account-read}
-use Rattle.register.proofs.ReadBack.{entries-back}
+use Rattle.register.proofs.ReadBack.{values-back, entries-back}
 use Rattle.register.proofs.Sending.{lists, taking, Free}
 use Rattle.register.proofs.Calling.{takenAs, Calling, refused, taken, calling}
 
@@ -89,6 +89,9 @@ module _ (R : rule.Rule State Event ℕ) (k : Suits R) where
 
     pub taken-back : entriesIn (bytesOfEntries (headingOf m .account) (map entryOf xs)) ≡ xs
     taken-back = entries-back R k (headingOf m .account) (w .account) xs (said .1)
+
+    pub taken-values : map ruleEntry (map entryOf xs) ≡ xs
+    taken-values = values-back R k (headingOf m .account) (w .account) xs (said .1)
 
     taken-keeps : Keeps (accountOf (taking R r m .account)) (seen ++ (record { message = ruleMessage m; answer = rule-call.taken xs } ∷ []))
     unfolding rule-call.call

@@ -20,7 +20,7 @@ use Rattle.events.specs.declared.Event.{Event}
 use Rattle.events.specs.declared.State.{State}
 use Rattle.filing.specs.declared.Filed.{Filed}
 use Rattle.filing.specs.declared.Entry.{Entry}
-use Rattle.filing.specs.Entries.{RuleEntry, entriesOf}
+use Rattle.filing.specs.Entries.{RuleEntry, entriesOf, entryOf}
 use Rattle.account.specs.declared.Account.{Account}
 use Rattle.account.specs.declared.Answer.the-variants as Answer′
 use Rattle.account.specs.Places.{RuleAccount, listsOf, accountOf}
@@ -31,13 +31,17 @@ use Rattle.layout.specs.Fields.{lastAccount}
 use Rattle.message.specs.declared.Message.{Message}
 use Rattle.message.specs.Bytes.{headingOf}
 use Rattle.entry.specs.Bytes.{listOf}
+use Rattle.entry.proofs.CallFits.{listed}
 use Rattle.register.specs.declared.Register.{Register}
 use Rattle.register.specs.Register.{nowhere, accountAt, withAccount, ruleMessage, notSent, sentIn, freshBy, sentBy}
 use Rattle.register.specs.Sequence.{ruleEntry}
 use Rattle.register.specs.Filed.{SameAccount, SameRegister, SameSent, FiledNeverMatters}
 use Rattle.register.proofs.Suits.{Suits}
 use Rattle.register.proofs.InOrder.{new-order}
-use Rattle.register.proofs.Sends.{sent-entries}
+
+-- an entry as a value, and as the rule has it again
+abbrev asValue : RuleEntry → RuleEntry
+asValue x = ruleEntry (entryOf x)
 
 module _ (R : rule.Rule State Event ℕ) (k : Suits R) (f : Filed → Filed) where
   -- the rule's calls on such lists
@@ -63,13 +67,19 @@ module _ (R : rule.Rule State Event ℕ) (k : Suits R) (f : Filed → Filed) whe
         lists = ap (accountThrough f) (lists-account a) ∙ h ∙ sym (ap (accountThrough f) (lists-account a′));
       }
 
-  -- entries in their places
-  entries-through : (xs : List RuleEntry) → map (λ (e : Entry). entryThrough f (ruleEntry e)) (listOf (entriesOf xs)) ≡ map (entryThrough f) xs
-  entries-through xs = two (listOf (entriesOf xs)) ∙ ap (map (entryThrough f)) (sent-entries xs)
+  -- entries in their places: what is filed is put through in the value as in the rule's entry
+  value-through : (x : RuleEntry) → entryThrough f (asValue x) ≡ asValue (entryThrough f x)
+  value-through (rule.voted t g e w) = refl
+  value-through (rule.noted t g) = refl
+  value-through (rule.applied t g e b) = refl
+  value-through (rule.dropped t g e) = refl
+
+  entries-through : (xs : List RuleEntry) → map (λ (e : Entry). entryThrough f (ruleEntry e)) (listOf (entriesOf xs)) ≡ map asValue (map (entryThrough f) xs)
+  entries-through xs = ap (map (λ (e : Entry). entryThrough f (ruleEntry e))) (listed xs) ∙ by xs
     where
-      two : (es : List Entry) → map (λ (e : Entry). entryThrough f (ruleEntry e)) es ≡ map (entryThrough f) (map ruleEntry es)
-      two [] = refl
-      two (e ∷ es) = ap (λ (l : List RuleEntry). entryThrough f (ruleEntry e) ∷ l) (two es)
+      by : (ys : List RuleEntry) → map (λ (e : Entry). entryThrough f (ruleEntry e)) (map entryOf ys) ≡ map asValue (map (entryThrough f) ys)
+      by [] = refl
+      by (y ∷ ys) = λ j. value-through y j ∷ by ys j
 
   -- Two registers, and the account that is named.
   module _ (r r′ : Register) (same : SameRegister R f r r′) where
@@ -102,7 +112,7 @@ module _ (R : rule.Rule State Event ℕ) (k : Suits R) (f : Filed → Filed) whe
           let z : map (entryThrough f) xs ≡ map (entryThrough f) xs′ = cc in
           record {
             answers = refl;
-            entries = entries-through xs ∙ z ∙ sym (entries-through xs′);
+            entries = entries-through xs ∙ ap (map asValue) z ∙ sym (entries-through xs′);
             registers = register-same i l (accountOf next) (accountOf next′) h;
           }
 

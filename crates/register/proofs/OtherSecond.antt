@@ -33,7 +33,7 @@ use Rattle.message.specs.declared.Reading.{Reading}
 use Rattle.message.specs.declared.Reading.the-variants as Reading′
 use Rattle.message.specs.Bytes.{messages, headingOf, messageBy}
 use Rattle.message.specs.Answers.{readNumbers, readKind, readOf}
-use Rattle.entry.specs.Bytes.{entryRows, kindOf, thenNumbers, bytesOfEntry, bytesOfEntries}
+use Rattle.entry.specs.Bytes.{bytesAs, entryRows, kindOf, thenNumbers, bytesOfEntry, bytesOfEntries}
 use Rattle.entry.proofs.Stored.{length-entry}
 use Rattle.register.specs.Register.{ruleMessage}
 use Rattle.register.specs.Sequence.{toldAs, ruleEntry}
@@ -207,7 +207,7 @@ module _ (account transaction : ℕ) (told : Told) where
   said g = record { transaction = transaction; filed = g; told = told }
 
   entry-same : (g g′ : Filed) → OtherSecond (bytesOfEntry account (said g)) (bytesOfEntry account (said g′))
-  unfolding bytesOfEntry
+  unfolding bytesAs bytesOfEntry
   entry-same g g′ =
       let kind = kindOf told in
       let then = thenOf (rowOfKind entryRows kind) in

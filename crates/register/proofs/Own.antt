@@ -130,14 +130,14 @@ module _ (h : Heading) (rest tail : List ℕ) where
   own-request Close w = own-vote 4 (h .transaction) (h .account) (h .filed) 0 (w .weighed) (w .reason) rest tail (w .verdict) (omega arith) (omega arith) (λ l. absurd (omega arith)) (λ e. refl)
 
   own-commit : (xs : List RuleEntry) (n : ℕ) → OwnEntry (bytesOfMessage (Commit h) ++ rest) n (entriesOf (rule.noted (h .transaction) (h .filed) ∷ xs) ++ tail)
-  unfolding bytesOfMessage bytesOfEntries bytesOfEntry rowOfKind messages entryRows sent filed written bytesOf
+  unfolding bytesOfMessage bytesOfEntries bytesAs bytesOfEntry rowOfKind messages entryRows sent filed written bytesOf
   own-commit xs n =
       own-decided 5 20 (h .transaction) (h .account) (h .filed) (h .filed) rest (entriesOf xs ++ tail)
       (omega arith) (omega arith) (λ e. (refl, refl)) (λ e. absurd (omega arith)) n
 
   own-abort : (g : Filed) (e : Event) (xs : List RuleEntry) (n : ℕ)
       → OwnEntry (bytesOfMessage (Abort h) ++ rest) n (entriesOf (rule.dropped (h .transaction) g e ∷ xs) ++ tail)
-  unfolding bytesOfMessage bytesOfEntries bytesOfEntry rowOfKind messages entryRows sent filed written bytesOf
+  unfolding bytesOfMessage bytesOfEntries bytesAs bytesOfEntry rowOfKind messages entryRows sent filed written bytesOf
   own-abort g e xs n =
       own-decided 6 22 (h .transaction) (h .account) (h .filed) g rest (written (1 ∷ 4 ∷ []) (eventKind e ∷ amountOf e ∷ []) ++ (entriesOf xs ++ tail))
       (omega arith) (omega arith) (λ e. absurd (omega arith)) (λ e. refl) n

@@ -4,7 +4,7 @@ use Prim.Native.Nat.{ℕ, _≤_}
 use native.Mathlib.Omega.{arith}
 use mathlib.Core.Path.{_≡_, refl}
 use mathlib.Core.List.{List}
-use borrow.Author.Tests.{lt-ltb, le-ltb}
+use borrow.Author.Tests.{lt-ltb, le-ltb, ne-eqb}
 use lib.ListN.{length}
 use lib.Seq.{getD-at, set-at}
 use Rattle.rule.specs.Rule as rule
@@ -82,7 +82,7 @@ entries-plain most bytes x =
     record {
       none′ = refl;
       whole = refl;
-      found = λ e account whole read. rw read refl;
+      found = λ e kind account whole read. rw read refl;
       ended = λ read. rw read refl;
       refused = λ n. refl;
       taken = λ consumed written. refl;
@@ -110,6 +110,6 @@ plain-holds =
       numbers = numbers-plain;
       used = λ a t. record { progress = refl; held = refl; isInProgress′ = refl; isHeld′ = refl; isCommitted′ = refl; undecided = refl };
       told = λ s n m k j. record { refused = refl; answered = refl; exported = refl };
-      entry′ = λ t n g e. record { accepted = refl; rejected = refl; held = refl; noted = refl; applied = refl; dropped = refl; back = value-back };
+      entry′ = λ t n k g e. record { accepted = refl; rejected = λ h. rw (ne-eqb k 0 h) refl; held = refl; noted = refl; applied = refl; dropped = refl; back = value-back };
       entries = entries-plain;
     }

@@ -92,6 +92,11 @@ module _ (R : rule.Rule State Event ℕ) (k : Suits R) (i : ℕ) (fits : i ≤ l
   says-fits (rule.dropped t g e) h =
       record { transaction = h .0; account′ = fits; filed = h .1; amount = h .2; weighed = omega arith; balance = omega arith; reason = omega arith; alone = λ other. refl }
 
+  -- so that entries as values are the entries
+  pub values-back : (xs : List RuleEntry) → EntriesSay R EventFits CommitFits StateFits BalanceFits xs → map ruleEntry (map entryOf xs) ≡ xs
+  values-back [] h = refl
+  values-back (x ∷ xs) h = λ j. value-back x (says-reasoned x (h .0)) j ∷ values-back xs (h .1) j
+
   -- one entry, and the rest
   read-one : (x : RuleEntry) (rest : List ℕ) (most : ℕ) → Say x → entriesFrom (suc most) (bytesOfEntry i (entryOf x) ++ rest) ≡ x ∷ entriesFrom most rest
   unfolding entriesFrom

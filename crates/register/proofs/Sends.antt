@@ -28,17 +28,8 @@ use Rattle.register.specs.Call.{wroteOf, afterMessage, calledBy}
 use Rattle.register.specs.Sequence.{after, exchanges, seenBy, ruleEntry, entriesIn}
 use Rattle.register.specs.Sends.{IsSent, CallIsSend, SentReadsBack}
 use Rattle.register.proofs.Suits.{Suits}
-use Rattle.register.proofs.ReadBack.{value-back}
 use Rattle.register.proofs.Sending.{taking, Sending, refused, taken, sending}
-use Rattle.register.proofs.Demand3.{reached-sees, taken-back}
-
--- the entries of a call in their places, and as the rule has them
-pub sent-entries : (xs : List RuleEntry) → map ruleEntry (listOf (entriesOf xs)) ≡ xs
-sent-entries xs = ap (map ruleEntry) (listed xs) ∙ back xs
-  where
-    back : (ys : List RuleEntry) → map ruleEntry (map entryOf ys) ≡ ys
-    back [] = refl
-    back (y ∷ ys) = λ i. value-back y i ∷ back ys i
+use Rattle.register.proofs.Demand3.{reached-sees, taken-back, taken-values}
 
 module _ (R : Rule State Event ℕ) where
   -- with room for its entries a call on a message's bytes is what is written of what was sent
@@ -78,6 +69,8 @@ module _ (R : Rule State Event ℕ) where
         by (refused n high) h = let z : _≡_ {A = ℕ} 0 1 = cc in absurd (omega arith)
         by (taken free) h =
             let xs = taking R r m .entries in
+            let seen = seenBy i (exchanges R (freshBy R) inputs) in
+            let sees = reached-sees R k inputs b .each i (omega (arith, w .account)) in
             ap (λ es. entriesIn (bytesOfEntries i es)) (listed xs)
-            ∙ taken-back R k r m free w (seenBy i (exchanges R (freshBy R) inputs)) (reached-sees R k inputs b .each i (omega (arith, w .account)))
-            ∙ sym (sent-entries xs)
+            ∙ taken-back R k r m free w seen sees
+            ∙ sym (ap (map ruleEntry) (listed xs) ∙ taken-values R k r m free w seen sees)
