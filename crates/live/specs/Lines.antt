@@ -25,7 +25,7 @@ lineWritten whole (Refused n) left = noLine left
 
 abbrev pub lineFound : (buffer : List ℕ) → EntryReading → Line
 lineFound buffer Nothing = noLine buffer
-lineFound buffer (Found e kind account whole) = lineWritten whole (writeLineOf e account buffer .answer) (writeLineOf e account buffer .buffer)
+lineFound buffer (Found e kind account whole) = lineWritten whole (writeLineOf e kind account buffer .answer) (writeLineOf e kind account buffer .buffer)
 
 unfoldable pub lineOfEntry : (bytes buffer : List ℕ) → Line
 lineOfEntry bytes buffer = lineFound buffer (readOf bytes)

@@ -20,10 +20,10 @@ pub fn write_entry_line(bytes: &[u8], buffer: &mut [u8]) -> Lined
     ensures { λ r. ⌜ (r ≡ lineOfEntry (now (bytes .entry)) (now (buffer .entry)) .lined) × (now (buffer .exit) ≡ lineOfEntry (now (bytes .entry)) (now (buffer .entry)) .buffer) ⌝ }
 {
     let reading = entry::read_entry(bytes);
-    let EntryReading::Found(found, _, account, whole) = reading else {
+    let EntryReading::Found(found, kind, account, whole) = reading else {
         return Lined::NONE;
     };
-    let writing = text::write_line(found, account, buffer);
+    let writing = text::write_line(found, kind, account, buffer);
     let Writing::Written(length) = writing else {
         return Lined::NONE;
     };

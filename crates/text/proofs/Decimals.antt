@@ -11,7 +11,7 @@ use borrow.Author.Tests.{le-leb, lt-ltb, ltb-true, ltb-false}
 use lib.Dec.{leb, ltb, lit<}
 use lib.ListN.{getD}
 use Rattle.rule.specs.Lists.{every}
-use Rattle.text.specs.Text.{decimalIn, lineOf}
+use Rattle.text.specs.Text.{decimalIn, lineOf, lineAs}
 use Rattle.text.specs.Decimal.{valueFrom, Decimal, Decimals, LongestLineIs}
 use Rattle.entry.proofs.Booleans.{both}
 
@@ -59,5 +59,5 @@ pub decimals : Decimals
 decimals number h = decimals-in 9 number h
 
 pub longest-line-is : LongestLineIs
-unfolding lineOf decimalIn
+unfolding lineAs decimalIn
 longest-line-is = refl

@@ -19,7 +19,7 @@ use Rattle.layout.specs.Number.{bytesOf, AreBytes}
 use Rattle.layout.specs.Fields.{written, lastAccount}
 use Rattle.entry.specs.declared.EntryReading.{EntryReading}
 use Rattle.entry.specs.declared.EntryReading.the-variants.{Found, Nothing}
-use Rattle.entry.specs.Bytes.{bytesOfEntry, bytesOfEntries, lengthOfTold}
+use Rattle.entry.specs.Bytes.{kindOf, bytesOfEntry, bytesOfEntries, lengthOfTold, bytesAs}
 use Rattle.entry.specs.Answers.{readOf}
 use Rattle.entry.specs.Inverse.{Writable}
 use Rattle.entry.proofs.Inverse.{reads-written, writes-read}
@@ -55,7 +55,7 @@ are-written (w ∷ ws) [] = are-none
 are-written (w ∷ ws) (n ∷ ns) = are-append (bytesOf w n) (written ws ns) (are-number w n) (are-written ws ns)
 
 are-entries : (i : ℕ) (es : List Entry) → AreBytes (bytesOfEntries i es)
-unfolding bytesOfEntries bytesOfEntry
+unfolding bytesOfEntries bytesAs bytesOfEntry
 are-entries i [] = are-none
 are-entries i (e ∷ es) = are-append (bytesOfEntry i e) (bytesOfEntries i es) (are-written _ _) (are-entries i es)
 
@@ -76,7 +76,7 @@ module _ (i : ℕ) (known : i ≤ lastAccount) where
   -- what was read under some account can be written under this one
   under : (account : ℕ) (e : Entry) → Writable account e → Writable i e
   under account e w =
-      record { transaction = w .transaction; account′ = known; filed = w .filed; amount = w .amount; weighed = w .weighed; balance = w .balance }
+      record { transaction = w .transaction; account′ = known; filed = w .filed; amount = w .amount; weighed = w .weighed; balance = w .balance; reason = w .reason; alone = w .alone }
 
   module _ (most : ℕ) (on : (es : List Entry) → entriesFrom most (bytesOfEntries i es) ≡ map ruleEntry es → EntryLines (bytesOfEntries i es) (linesOf i es))
       (e : Entry) (es : List Entry) where
@@ -84,15 +84,16 @@ module _ (i : ℕ) (known : i ≤ lastAccount) where
     bytes = bytesOfEntry i e ++ bytesOfEntries i es
 
     -- the first one is the one that is read, and behind it are the others
-    first : (x : Entry) (account whole : ℕ) → AreBytes bytes → readOf bytes ≡ Found x account whole → x ≡ e → entriesFrom most (drop whole bytes) ≡ map ruleEntry es
+    first : (x : Entry) (kind account whole : ℕ) → AreBytes bytes → readOf bytes ≡ Found x kind account whole → x ≡ e → entriesFrom most (drop whole bytes) ≡ map ruleEntry es
         → EntryLines bytes (lineOf i e ++ linesOf i es)
     unfolding bytes
-    first x account whole are q same rest =
-        let read = writes-read bytes account x whole are q in
+    first x kind account whole are q same rest =
+        let read = writes-read bytes kind account x whole are q in
         let writable : Writable i e = under account e (rw same at (read .writable)) in
-        let length′ : whole ≡ lengthOfTold (e .told) = rw same at (read .length′) in
+        let own = reads-written i e (bytesOfEntries i es) writable in
+        let length′ : whole ≡ lengthOfTold (e .told) = let z : Found x kind account whole ≡ Found e (kindOf (e .told)) i (lengthOfTold (e .told)) = sym q ∙ own in cc in
         let left : drop whole bytes ≡ bytesOfEntries i es = drop-at (bytesOfEntry i e) (bytesOfEntries i es) whole (length-entry i e ∙ sym length′) in
-        by.more i e (lengthOfTold (e .told)) (reads-written i e (bytesOfEntries i es) writable) (on es (rw left at rest))
+        by.more i e (kindOf (e .told)) (lengthOfTold (e .told)) own (on es (rw left at rest))
 
     one-more : AreBytes bytes → entriesFrom (suc most) bytes ≡ ruleEntry e ∷ map ruleEntry es → EntryLines bytes (lineOf i e ++ linesOf i es)
     unfolding entriesFrom
@@ -101,10 +102,10 @@ module _ (i : ℕ) (known : i ≤ lastAccount) where
         go : (reading : EntryReading) → readOf bytes ≡ reading → readOn bytes (λ (rest : List ℕ). entriesFrom most rest) reading ≡ ruleEntry e ∷ map ruleEntry es
             → EntryLines bytes (lineOf i e ++ linesOf i es)
         go Nothing q z = let y : _≡_ {A = ℕ} 0 1 = cc in absurd (omega arith)
-        go (Found x account whole) q z =
+        go (Found x kind account whole) q z =
             let head : ruleEntry x ≡ ruleEntry e = cc in
             let tail : entriesFrom most (drop whole bytes) ≡ map ruleEntry es = cc in
-            first x account whole are q (same-value x e head) tail
+            first x kind account whole are q (same-value x e head) tail
 
   lines-from : (most : ℕ) (es : List Entry) → entriesFrom most (bytesOfEntries i es) ≡ map ruleEntry es → EntryLines (bytesOfEntries i es) (linesOf i es)
   unfolding entriesFrom bytesOfEntries linesOf bytes

@@ -5,7 +5,7 @@ use native.Mathlib.Nat.{pow-suc, div-lt-iff-lt-mul}
 use mathlib.Core.Path.{_≡_, refl, ap}
 use mathlib.Core.Bool.{cond}
 use mathlib.Core.List.{List, [], _∷_, _++_}
-use borrow.Author.Tests.{lt-ltb, le-ltb}
+use borrow.Author.Tests.{lt-ltb, le-ltb, eq-eqb, ne-eqb}
 use lib.Dec.{ltb, lit<}
 use lib.ListN.{length}
 use Rattle.text.specs.declared.program.Served.{Served}
@@ -56,7 +56,7 @@ plain-holds =
     record {
       decimals = decimal-plain;
       values = λ sofar digit digits. record { none = refl; more = value-last sofar digit digits };
-      lines = λ e account buffer. record { short = λ h. rw (lt-ltb (length buffer) 72 h) refl; enough = λ h. rw (le-ltb (length buffer) 72 h) refl };
+      lines = λ e kind account buffer. record { short = λ h. rw (lt-ltb (length buffer) 72 h) refl; older = λ h is. rw (le-ltb (length buffer) 72 h, eq-eqb kind 18 is) refl; enough = λ h other. rw (le-ltb (length buffer) 72 h, ne-eqb kind 18 other) refl };
       steps = steps-plain;
       contracts =
           λ s r input text before after at most next.

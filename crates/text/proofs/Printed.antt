@@ -7,7 +7,7 @@ use mathlib.Core.Path.{_≡_, refl, ap, ap₂, _∙_}
 use mathlib.Core.Bool.{Bool, true, false, cond}
 use mathlib.Core.List.{List, [], _∷_, _++_, append-nil, append-assoc}
 use borrow.Author.Tests.{le-leb, le-ltb, ltb-false}
-use lib.Dec.{leb, ltb}
+use lib.Dec.{eqb, leb, ltb}
 use lib.ListN.{length, drop, length-append}
 use lib.Seq.{take-at, drop-at}
 use Rattle.rule.specs.Lists.{every}
@@ -20,12 +20,12 @@ use Rattle.filing.specs.declared.Told.{Told}
 use Rattle.filing.specs.declared.Told.the-variants.{Voted, Noted, Applied, Dropped}
 use Rattle.layout.specs.Answers.{wroteOver}
 use Rattle.layout.proofs.Answers.{wrote-stays, cond-stays}
-use Rattle.text.specs.Text.{decimalIn, decimal, voteName, nameOf, eventName, headingFields, thenFields, spaced, lineOf, linesOf, longestLine, writeLineOf}
+use Rattle.text.specs.Text.{decimalIn, decimal, voteName, nameOf, eventName, headingFields, reasonFields, thenFields, spaced, lineAs, lineOf, linesOf, longestLine, writeLineOf}
 use Rattle.text.specs.Quoted.{quoted}
-use Rattle.text.specs.Lines.{field, eventText, headingText, WordsPlain, LinesPlain, LinesTogether, Ended, LinesEnd, LinesFit, LineReadBack, LineRefuses, LineStays}
+use Rattle.text.specs.Lines.{field, eventText, headingText, WordsPlain, LinesPlain, OlderPlain, LinesTogether, Ended, LinesEnd, LinesFit, LineReadBack, LineRefuses, LineStays}
 use Rattle.entry.proofs.Booleans.{both}
 use Rattle.entry.proofs.Refusals.{refuses}
-use Rattle.text.proofs.Lines.{line-length}
+use Rattle.text.proofs.Lines.{then-length, line-length}
 
 pub words-plain : (t a s : ℕ) → WordsPlain t a s
 unfolding quoted decimalIn
@@ -53,13 +53,31 @@ number-line e n =
     ap (λ (l : List ℕ). l ++ (10 ∷ [])) (event-text e (32 ∷ (decimal n ++ [])) ∙ ap (λ (l : List ℕ). eventText e ++ (32 ∷ l)) (append-nil (decimal n)))
     ∙ append-assoc (eventText e) (field n) (10 ∷ [])
 
+reason-line : (e : Event) (n k : ℕ)
+    → spaced (eventName e ∷ decimal (amountOf e) ∷ decimal n ∷ decimal k ∷ []) ++ (10 ∷ []) ≡ eventText e ++ (field n ++ (field k ++ quoted "\n"))
+unfolding quoted
+reason-line e n k =
+    ap (λ (l : List ℕ). l ++ (10 ∷ []))
+    (event-text e (32 ∷ (decimal n ++ (32 ∷ (decimal k ++ [])))) ∙ ap (λ (l : List ℕ). eventText e ++ (32 ∷ (decimal n ++ (32 ∷ l)))) (append-nil (decimal k)))
+    ∙ append-assoc (eventText e) (field n ++ field k) (10 ∷ []) ∙ ap (λ (l : List ℕ). eventText e ++ l) (append-assoc (field n) (field k) (10 ∷ []))
+
 -- a name, the heading, and what follows it
 whole-line : (t a s : ℕ) (name x y : List ℕ) → x ≡ y → name ++ (spaced (decimal t ∷ decimal a ∷ decimal s ∷ []) ++ x) ≡ name ++ (headingText t a s ++ y)
 whole-line t a s name x y p = ap₂ (λ (h l : List ℕ). name ++ (h ++ l)) (heading-text t a s) p
 
 pub lines-plain : LinesPlain
-unfolding quoted lineOf
-lines-plain t a s e n =
+unfolding quoted lineAs
+lines-plain t a s e n k =
+    let number = number-line e n in
+    ap₂ _∷_ (whole-line t a s (quoted "accepted") _ _ number)
+    (ap₂ _∷_ (whole-line t a s (quoted "rejected") _ _ (reason-line e n k))
+    (ap₂ _∷_ (whole-line t a s (quoted "held") _ _ number)
+    (ap₂ _∷_ (whole-line t a s (quoted "noted") _ _ refl)
+    (ap₂ _∷_ (whole-line t a s (quoted "applied") _ _ number) (ap₂ _∷_ (whole-line t a s (quoted "dropped") _ _ (event-line e)) refl)))))
+
+pub older-plain : OlderPlain
+unfolding quoted lineAs
+older-plain t a s e n k =
     let number = number-line e n in
     ap₂ _∷_ (whole-line t a s (quoted "accepted") _ _ number)
     (ap₂ _∷_ (whole-line t a s (quoted "rejected") _ _ number)
@@ -108,12 +126,21 @@ event-printed (Withdraw a) fields p = (refl, (digits-printed 10 a, p))
 event-printed (Deposit a) fields p = (refl, (digits-printed 10 a, p))
 event-printed Close fields p = (refl, (digits-printed 10 0, p))
 
-then-printed : (told : Told) → Printed (thenFields told)
+reason-printed : (older : Bool) (v : Verdict) (reason : ℕ) → Printed (reasonFields older v reason)
 unfolding Printed
-then-printed (Voted e weighing) = event-printed e (decimal (weighing .weighed) ∷ []) (digits-printed 10 (weighing .weighed), tt)
-then-printed Noted = tt
-then-printed (Applied e n) = event-printed e (decimal n ∷ []) (digits-printed 10 n, tt)
-then-printed (Dropped e) = event-printed e [] tt
+reason-printed older Accepted reason = tt
+reason-printed true Rejected reason = tt
+reason-printed false Rejected reason = (digits-printed 10 reason, tt)
+reason-printed older Held reason = tt
+
+then-printed : (older : Bool) (told : Told) → Printed (thenFields older told)
+unfolding Printed
+then-printed older (Voted e weighing) =
+    event-printed e (decimal (weighing .weighed) ∷ reasonFields older (weighing .verdict) (weighing .reason))
+    (digits-printed 10 (weighing .weighed), reason-printed older (weighing .verdict) (weighing .reason))
+then-printed older Noted = tt
+then-printed older (Applied e n) = event-printed e (decimal n ∷ []) (digits-printed 10 n, tt)
+then-printed older (Dropped e) = event-printed e [] tt
 
 vote-printed : (verdict : Verdict) → every (leb 32) (voteName verdict) ≡ true
 vote-printed Accepted = refl
@@ -136,32 +163,34 @@ ended text h =
     }
 
 pub lines-end : LinesEnd
-unfolding lineOf Printed
-lines-end account e =
+unfolding lineAs Printed
+lines-end older account e =
     let name = nameOf (e .told) in
     let fields = headingFields (e .transaction) account (e .filed) in
     let first = spaced fields in
-    let then = spaced (thenFields (e .told)) in
+    let then = spaced (thenFields older (e .told)) in
     let p : every (leb 32) first ≡ true =
     spaced-printed fields (digits-printed 10 (e .transaction), (digits-printed 10 account, (digits-printed 10 (e .filed .second), tt))) in
-    let q = every-append (leb 32) first then p (spaced-printed (thenFields (e .told)) (then-printed (e .told))) in
+    let q = every-append (leb 32) first then p (spaced-printed (thenFields older (e .told)) (then-printed older (e .told))) in
     let l : name ++ (first ++ (then ++ (10 ∷ []))) ≡ (name ++ (first ++ then)) ++ (10 ∷ []) = simp append-assoc in
     rw l (ended (name ++ (first ++ then)) (every-append (leb 32) name (first ++ then) (name-printed (e .told)) q))
 
 pub lines-fit : LinesFit
-lines-fit = line-length
+lines-fit older account e h k = line-length older account e h (then-length older (e .told) k)
 
 pub line-read-back : LineReadBack
 unfolding writeLineOf
-line-read-back e account buffer h =
-    rw (le-ltb (length buffer) 72 h) (record { answer = refl; text = take-at (lineOf account e) (drop (length (lineOf account e)) buffer) (length (lineOf account e)) refl })
+line-read-back e kind account buffer h =
+    let line = lineAs (eqb kind 18) account e in
+    rw (le-ltb (length buffer) 72 h) (record { answer = refl; text = take-at line (drop (length line) buffer) (length line) refl })
 
 pub line-refuses : LineRefuses
 unfolding writeLineOf
-line-refuses e account buffer = refuses (ltb (length buffer) longestLine) (lineOf account e) buffer
+line-refuses e kind account buffer = refuses (ltb (length buffer) longestLine) (lineAs (eqb kind 18) account e) buffer
 
 pub line-stays : LineStays
 unfolding writeLineOf
-line-stays e account buffer h =
-    cond-stays (ltb (length buffer) longestLine) 4 buffer (wroteOver (lineOf account e) buffer)
-    (λ b. wrote-stays (lineOf account e) buffer (le-trans (line-length account e h) (ltb-false (length buffer) longestLine b)))
+line-stays e kind account buffer h k =
+    let line = lineAs (eqb kind 18) account e in
+    cond-stays (ltb (length buffer) longestLine) 4 buffer (wroteOver line buffer)
+    (λ b. wrote-stays line buffer (le-trans (lines-fit (eqb kind 18) account e h k) (ltb-false (length buffer) longestLine b)))

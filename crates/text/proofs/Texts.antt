@@ -33,6 +33,14 @@ put-append xs ys at m n next next′ l l₁ l₂ p q =
 pub put-room : (xs : List ℕ) (at m n next : ℕ) (l l₁ : List ℕ) → m ≤ n → Put xs at m l next l₁ → Put xs at n l next l₁
 put-room xs at m n next l l₁ h p = record { place = p .place; within = omega (arith, p .within); stored = p .stored }
 
+-- as much room as it takes
+pub put-within : (xs : List ℕ) (at m n next : ℕ) (l l₁ : List ℕ) → length xs ≤ n → Put xs at m l next l₁ → Put xs at n l next l₁
+put-within xs at m n next l l₁ h p = record { place = p .place; within = omega (arith, p .place); stored = p .stored }
+
+-- nothing, where something might be
+pub put-none : (at n : ℕ) (l : List ℕ) → Put [] at n l at l
+put-none at n l = put-room [] at 0 n at l l (omega arith) (put-nothing at l)
+
 pub put-byte : (byte at : ℕ) (l l₁ : List ℕ) → byte < 256 → l₁ ≡ sets l at (bytesOf 1 byte) → Put (byte ∷ []) at 1 l (at + 1) l₁
 put-byte byte at l l₁ h e = record { place = refl; within = omega arith; stored = rw (bytesOf-one byte h) at e }
 

@@ -1,11 +1,11 @@
 -- The literal lines: antt computes the table.
 -- Assumes nothing.
 use mathlib.Core.Path.{refl}
-use Rattle.entry.specs.Vectors.{table}
-use Rattle.text.specs.Text.{decimalIn, lineOf, writeLineOf}
+use Rattle.entry.specs.Vectors.{table, olderTable}
+use Rattle.text.specs.Text.{decimalIn, lineAs, writeLineOf}
 use Rattle.text.specs.Quoted.{quoted}
-use Rattle.text.specs.Vectors.{lines, VectorsHold}
+use Rattle.text.specs.Vectors.{lines, olderLines, VectorsHold}
 
 pub vectors : VectorsHold
-unfolding decimalIn lineOf writeLineOf quoted table lines
-vectors = record { lines = refl; short = refl }
+unfolding decimalIn lineAs writeLineOf quoted table olderTable lines olderLines
+vectors = record { lines = refl; older = refl; short = refl }

@@ -8,7 +8,7 @@ use lib.Dec.{leb}
 use lib.ListN.{length, getD}
 use Rattle.rule.specs.Lists.{every}
 use Rattle.events.specs.declared.Event.the-variants.{Withdraw}
-use Rattle.filing.specs.declared.Verdict.the-variants.{Accepted}
+use Rattle.filing.specs.declared.Verdict.the-variants.{Rejected}
 use Rattle.filing.specs.declared.Entry.{Entry}
 use Rattle.entry.specs.Plain.{vote}
 use Rattle.text.specs.Text.{decimal, lineOf}
@@ -34,7 +34,7 @@ longEntry =
     record {
       transaction = 4_294_967_295;
       filed = record { second = 4_294_967_295 };
-      told = vote Accepted (Withdraw 4_294_967_295) 4_294_967_295;
+      told = vote Rejected (Withdraw 4_294_967_295) 4_294_967_295 255;
     }
 
 abbrev pub LongestLineIs : Type 0

@@ -47,7 +47,7 @@ TurnIsCall = (r : Register) (bytes buffer : List ℕ) → 323 ≤ length buffer 
 -- bytes that are entries, one after the other and nothing else, each the one that is read there, and their lines
 pub data EntryLines : (bytes text : List ℕ) → Type 0 where
   none : EntryLines [] []
-  more : {bytes text : List ℕ} (account : ℕ) (e : Entry) (whole : ℕ) → readOf (bytesOfEntry account e ++ bytes) ≡ Found e account whole
+  more : {bytes text : List ℕ} (account : ℕ) (e : Entry) (kind whole : ℕ) → readOf (bytesOfEntry account e ++ bytes) ≡ Found e kind account whole
       → EntryLines bytes text → EntryLines (bytesOfEntry account e ++ bytes) (lineOf account e ++ text)
 
 -- the text of a call that is seen

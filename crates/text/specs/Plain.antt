@@ -3,7 +3,7 @@
 -- Assumes nothing.
 use Prim.Native.Nat.{ℕ, _+_, _*_, _-_, _/_, _%_, _^_, _≤_, _<_}
 use mathlib.Core.Path.{_≡_}
-use mathlib.Core.Bool.{cond}
+use mathlib.Core.Bool.{true, cond}
 use mathlib.Core.List.{List, [], _∷_, _++_}
 use lib.ListN.{length, drop}
 use lib.Seq.{sets}
@@ -12,7 +12,7 @@ use Rattle.layout.specs.declared.Writing.the-variants.{Written, Refused}
 use Rattle.register.specs.Run.{lengthAt, passedOf}
 use Rattle.register.specs.First.{freshRegister}
 use Rattle.text.specs.declared.program.Served.{Served}
-use Rattle.text.specs.Text.{decimal, lineOf, longestLine, writeLineOf, Put}
+use Rattle.text.specs.Text.{decimal, lineAs, lineOf, longestLine, writeLineOf, Put}
 use Rattle.text.specs.Decimal.{valueFrom}
 use Rattle.text.specs.Quoted.{quoted}
 use Rattle.text.specs.Output.{longestInput, turnAt}
@@ -28,11 +28,13 @@ pub record ValuePlain (sofar digit : ℕ) (digits : List ℕ) : Type 0 where
   pub none : valueFrom sofar [] ≡ sofar
   pub more : valueFrom sofar (digits ++ (digit ∷ [])) ≡ valueFrom sofar digits * 10 + (digit - 48)
 
--- the writer of a line: 4 with fewer than 72 bytes; else the line, its length, and the rest of the buffer as it was
-pub record LineWritten (e : Entry) (account : ℕ) (buffer : List ℕ) : Type 0 where
-  pub short : length buffer < 72 → writeLineOf e account buffer ≡ record { answer = Refused 4; buffer = buffer }
-  pub enough : 72 ≤ length buffer
-      → writeLineOf e account buffer ≡ record { answer = Written (length (lineOf account e)); buffer = lineOf account e ++ drop (length (lineOf account e)) buffer }
+-- the writer of a line: 4 with fewer than 72 bytes; else the line, of kind 18 without a reason, its length, and the rest of the buffer as it was
+pub record LineWritten (e : Entry) (kind account : ℕ) (buffer : List ℕ) : Type 0 where
+  pub short : length buffer < 72 → writeLineOf e kind account buffer ≡ record { answer = Refused 4; buffer = buffer }
+  pub enough : 72 ≤ length buffer → (kind ≡ 18 → ⊥)
+      → writeLineOf e kind account buffer ≡ record { answer = Written (length (lineOf account e)); buffer = lineOf account e ++ drop (length (lineOf account e)) buffer }
+  pub older : 72 ≤ length buffer → kind ≡ 18
+      → writeLineOf e kind account buffer ≡ record { answer = Written (length (lineAs true account e)); buffer = lineAs true account e ++ drop (length (lineAs true account e)) buffer }
 
 -- the beginning, one message, and the end
 pub record StepsPlain (s : Served) (input : List ℕ) : Type 0 where
@@ -76,7 +78,7 @@ pub record Longest : Type 0 where
 pub record PlainHolds : Type 0 where
   pub decimals : (number : ℕ) → DecimalPlain number
   pub values : (sofar digit : ℕ) (digits : List ℕ) → ValuePlain sofar digit digits
-  pub lines : (e : Entry) (account : ℕ) (buffer : List ℕ) → LineWritten e account buffer
+  pub lines : (e : Entry) (kind account : ℕ) (buffer : List ℕ) → LineWritten e kind account buffer
   pub steps : (s : Served) (input : List ℕ) → StepsPlain s input
   pub contracts : (s r : Served) (input text before after : List ℕ) (at most next : ℕ) → ContractsPlain s r input text before after at most next
   pub longest : Longest

@@ -2,7 +2,7 @@
 -- Assumes nothing.
 use Prim.Native.Nat.{ℕ, zero, suc, _+_, _/_, _%_, _≤_}
 use mathlib.Core.Path.{_≡_}
-use mathlib.Core.Bool.{cond}
+use mathlib.Core.Bool.{Bool, false, cond}
 use mathlib.Core.List.{List, [], _∷_, _++_}
 use lib.Dec.{ltb, eqb}
 use lib.ListN.{length}
@@ -50,18 +50,18 @@ eventName e =
 abbrev pub headingFields : (transaction account : ℕ) → Filed → List (List ℕ)
 headingFields t account g = decimal t ∷ decimal account ∷ decimal (g .second) ∷ []
 
--- the reason of a rejection is the last field of its line, and no other vote has one
-abbrev pub reasonFields : Verdict → (reason : ℕ) → List (List ℕ)
-reasonFields Accepted reason = []
-reasonFields Rejected reason = decimal reason ∷ []
-reasonFields Held reason = []
+-- the reason of a rejection is the last field of its line, but of an older one, which has none; no other vote has one
+abbrev pub reasonFields : (older : Bool) → Verdict → (reason : ℕ) → List (List ℕ)
+reasonFields older Accepted reason = []
+reasonFields older Rejected reason = cond older [] (decimal reason ∷ [])
+reasonFields older Held reason = []
 
 -- the fields behind the second: the event and its amount, and the outcomes weighed with the reason of a rejection, or the balance; none after a commit noted
-abbrev pub thenFields : Told → List (List ℕ)
-thenFields (Voted e weighing) = eventName e ∷ decimal (amountOf e) ∷ decimal (weighing .weighed) ∷ reasonFields (weighing .verdict) (weighing .reason)
-thenFields Noted = []
-thenFields (Applied e balance) = eventName e ∷ decimal (amountOf e) ∷ decimal balance ∷ []
-thenFields (Dropped e) = eventName e ∷ decimal (amountOf e) ∷ []
+abbrev pub thenFields : (older : Bool) → Told → List (List ℕ)
+thenFields older (Voted e weighing) = eventName e ∷ decimal (amountOf e) ∷ decimal (weighing .weighed) ∷ reasonFields older (weighing .verdict) (weighing .reason)
+thenFields older Noted = []
+thenFields older (Applied e balance) = eventName e ∷ decimal (amountOf e) ∷ decimal balance ∷ []
+thenFields older (Dropped e) = eventName e ∷ decimal (amountOf e) ∷ []
 
 -- fields that follow another, a space before each
 abbrev pub spaced : List (List ℕ) → List ℕ
@@ -69,9 +69,13 @@ spaced [] = []
 spaced (field ∷ fields) = 32 ∷ (field ++ spaced fields)
 
 -- the fields in their order, and a newline
-unfoldable pub lineOf : (account : ℕ) → Entry → List ℕ
-lineOf account e =
-    nameOf (e .told) ++ (spaced (headingFields (e .transaction) account (e .filed)) ++ (spaced (thenFields (e .told)) ++ (10 ∷ [])))
+unfoldable pub lineAs : (older : Bool) (account : ℕ) → Entry → List ℕ
+lineAs older account e =
+    nameOf (e .told) ++ (spaced (headingFields (e .transaction) account (e .filed)) ++ (spaced (thenFields older (e .told)) ++ (10 ∷ [])))
+
+-- the line of an entry as it is written
+abbrev pub lineOf : (account : ℕ) → Entry → List ℕ
+lineOf account e = lineAs false account e
 
 -- the lines of entries, one after the other
 unfoldable pub linesOf : (account : ℕ) → List Entry → List ℕ
@@ -82,9 +86,13 @@ linesOf account (e ∷ es) = lineOf account e ++ linesOf account es
 abbrev pub longestLine : ℕ
 longestLine = 72
 
--- the writer of a line: 4 where the buffer is too short for the longest
-unfoldable pub writeLineOf : Entry → (account : ℕ) (buffer : List ℕ) → Wrote
-writeLineOf e account buffer = cond (ltb (length buffer) longestLine) (refusedWith 4 buffer) (wroteOver (lineOf account e) buffer)
+-- a rejection in kind 18 has no reason to show (9.1)
+abbrev pub isOlder : (kind : ℕ) → Bool
+isOlder kind = eqb kind 18
+
+-- the writer of the line of an entry that stands in that kind: 4 where the buffer is too short for the longest
+unfoldable pub writeLineOf : Entry → (kind account : ℕ) (buffer : List ℕ) → Wrote
+writeLineOf e kind account buffer = cond (ltb (length buffer) longestLine) (refusedWith 4 buffer) (wroteOver (lineAs (isOlder kind) account e) buffer)
 
 -- text that was stored from `at` on, of at most so many bytes, and the place after it
 pub record Put (text : List ℕ) (at most : ℕ) (before : List ℕ) (next : ℕ) (after : List ℕ) : Type 0 where

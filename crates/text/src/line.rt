@@ -4,7 +4,7 @@ ghost use mathlib.Core.Path.{_≡_};
 ghost use Prim.Native.Nat.{_+_, _≤_, _<_};
 ghost use lib.ListN.{length, take};
 ghost use Rattle.events.specs.Kinds.{amountOf};
-ghost use Rattle.text.specs.Text.{decimalIn, decimal, eventName, headingFields, reasonFields, thenFields, spaced, lineOf, longestLine, writeLineOf, Put, farthest};
+ghost use Rattle.text.specs.Text.{decimalIn, decimal, eventName, headingFields, reasonFields, thenFields, spaced, lineAs, longestLine, writeLineOf, Put, farthest};
 use crate::words;
 use crate::words::Word;
 use events::Event;
@@ -14,26 +14,26 @@ use filing::Told;
 use filing::Verdict;
 use layout::Writing;
 
-// Writes the line of an entry of that account to the beginning of a buffer.
-pub fn write_line(entry: Entry, account: u16, buffer: &mut [u8]) -> Writing
-    ensures { λ r. ⌜ (r ≡ writeLineOf entry account (now (buffer .entry)) .answer) × (now (buffer .exit) ≡ writeLineOf entry account (now (buffer .entry)) .buffer) ⌝ }
+// Writes the line of an entry of that account, which stands in that kind, to the beginning of a buffer: of a rejection in kind 18 without a reason.
+pub fn write_line(entry: Entry, kind: u8, account: u16, buffer: &mut [u8]) -> Writing
+    ensures { λ r. ⌜ (r ≡ writeLineOf entry kind account (now (buffer .entry)) .answer) × (now (buffer .exit) ≡ writeLineOf entry kind account (now (buffer .entry)) .buffer) ⌝ }
 {
     if buffer.len() < crate::LONGEST_LINE {
         return Writing::Refused(4);
     }
-    Writing::Written(put_line(buffer, 0, entry, account))
+    Writing::Written(put_line(buffer, 0, entry, kind == 18, account))
 }
 
 // Stores the line of an entry of that account from `at` on. Its pieces have 84 bytes at most, each by itself; the line has fewer, since an account's number is short.
-pub(crate) fn put_line(buffer: &mut [u8], at: usize, entry: Entry, account: u16) -> usize
+pub(crate) fn put_line(buffer: &mut [u8], at: usize, entry: Entry, older: bool, account: u16) -> usize
     requires { ⌜ at + 84 ≤ farthest ⌝ }
-    ensures { λ r. ⌜ Put (lineOf account entry) at longestLine (now (buffer .entry)) r (now (buffer .exit)) ⌝ }
+    ensures { λ r. ⌜ Put (lineAs older account entry) at longestLine (now (buffer .entry)) r (now (buffer .exit)) ⌝ }
 {
     let told = entry.told;
     let filed = entry.filed;
     let named = put_word(buffer, at, words::name(told));
     let headed = put_heading(buffer, named, entry.transaction, account, filed);
-    let end = put_then(buffer, headed, told);
+    let end = put_then(buffer, headed, told, older);
     end_line(buffer, end)
 }
 
@@ -48,15 +48,15 @@ fn put_heading(buffer: &mut [u8], at: usize, transaction: u32, account: u16, fil
 }
 
 // Stores what follows transaction, account and second from `at` on.
-fn put_then(buffer: &mut [u8], at: usize, told: Told) -> usize
+fn put_then(buffer: &mut [u8], at: usize, told: Told, older: bool) -> usize
     requires { ⌜ at + 42 ≤ farthest ⌝ }
-    ensures { λ r. ⌜ Put (spaced (thenFields told)) at 42 (now (buffer .entry)) r (now (buffer .exit)) ⌝ }
+    ensures { λ r. ⌜ Put (spaced (thenFields older told)) at 35 (now (buffer .entry)) r (now (buffer .exit)) ⌝ }
 {
     match told {
         Told::Voted(event, weighing) => {
             let verdict = weighing.verdict;
             let weighed = put_with(buffer, at, event, weighing.weighed);
-            put_reason(buffer, weighed, verdict, weighing.reason)
+            put_reason(buffer, weighed, older, verdict, weighing.reason)
         }
         Told::Noted => at,
         Told::Applied(event, balance) => put_with(buffer, at, event, balance),
@@ -64,14 +64,20 @@ fn put_then(buffer: &mut [u8], at: usize, told: Told) -> usize
     }
 }
 
-// Stores the reason of a rejection from `at` on; nothing for any other vote.
-fn put_reason(buffer: &mut [u8], at: usize, verdict: Verdict, reason: u8) -> usize
+// Stores the reason of a rejection from `at` on; nothing for an older one, and for any other vote.
+fn put_reason(buffer: &mut [u8], at: usize, older: bool, verdict: Verdict, reason: u8) -> usize
     requires { ⌜ at + 11 ≤ farthest ⌝ }
-    ensures { λ r. ⌜ Put (spaced (reasonFields verdict reason)) at 11 (now (buffer .entry)) r (now (buffer .exit)) ⌝ }
+    ensures { λ r. ⌜ Put (spaced (reasonFields older verdict reason)) at 4 (now (buffer .entry)) r (now (buffer .exit)) ⌝ }
 {
     match verdict {
         Verdict::Accepted => at,
-        Verdict::Rejected => put_number(buffer, at, reason as u32),
+        Verdict::Rejected => {
+            if older {
+                at
+            } else {
+                put_number(buffer, at, reason as u32)
+            }
+        }
         Verdict::Held => at,
     }
 }

@@ -76,7 +76,7 @@ fn put_lines(out: &mut [u8], entries: Entries, account: u16) -> usize
     let mut i = 0;
     while i < count {
         let entry = entries.at[i];
-        at = line::put_line(out, at, entry, account);
+        at = line::put_line(out, at, entry, false, account);
         i += 1;
     }
     at

@@ -40,7 +40,7 @@ returns c =
     let l = a .buffer .now in
     let l₁ = at-put-word .put-word .last .0 in
     let named = put-name (at-name .name .result) (nameOf (a .entry .told)) (a .at) 8 (at-put-word .put-word .result) l l₁ (at-name .name .ensures) (at-put-word .put-word .ensures) in
-    line-put (a .entry) (a .account) (a .at) (at-put-word .put-word .result) (at-put-heading .put-heading .result) (at-put-then .put-then .result) (at-end-line .end-line .result) l
+    line-put (a .older) (a .entry) (a .account) (a .at) (at-put-word .put-word .result) (at-put-heading .put-heading .result) (at-put-then .put-then .result) (at-end-line .end-line .result) l
     l₁ (at-put-heading .put-heading .last .0) (at-put-then .put-then .last .0) (at-end-line .end-line .last .0)
     (start .fits .account .fits) named (at-put-heading .put-heading .ensures) (at-put-then .put-then .ensures) (at-end-line .end-line .ensures)
 
