@@ -45,5 +45,9 @@ vectors-hold =
       noThird = refl;
       entry = refl;
       line = refl;
+      overdraws = refl;
+      entry3 = refl;
+      line3 = refl;
+      older = refl;
       noAccount = refl;
     }

@@ -2,17 +2,18 @@
 -- Assumes nothing.
 use Prim.Native.Nat.{ℕ, _≤_, _<_}
 use mathlib.Core.Path.{_≡_}
+use mathlib.Core.Bool.{true}
 use mathlib.Core.List.{List, [], _∷_, _++_}
 use lib.ListN.{length, drop}
 use Rattle.events.specs.declared.Life.the-variants.{New, Opened, Closed}
 use Rattle.filing.specs.declared.Entry.{Entry}
 use Rattle.account.specs.declared.Outlook.the-variants as Outlook′
 use Rattle.entry.specs.declared.EntryReading.the-variants.{Nothing}
-use Rattle.entry.specs.Bytes.{bytesOfEntry}
+use Rattle.entry.specs.Bytes.{bytesAs, bytesOfEntry}
 use Rattle.entry.specs.Answers.{readOf}
-use Rattle.entry.specs.Inverse.{Writable}
+use Rattle.entry.specs.Inverse.{reasonIn, IsRejection, Writable}
 use Rattle.register.specs.declared.Reply.the-variants.{Refused, Taken}
-use Rattle.text.specs.Text.{lineOf}
+use Rattle.text.specs.Text.{lineAs, lineOf}
 use Rattle.live.specs.Lines.{lineOfEntry}
 use Rattle.live.specs.Exports.{exportedCall, exportedLook, exportedLine}
 
@@ -43,6 +44,13 @@ pub record LineHolds : Type 0 where
       ≡ record {
         lined = record { entry = length (bytesOfEntry account e); line = length (lineOf account e) };
         buffer = lineOf account e ++ drop (length (lineOf account e)) buffer;
+      }
+  -- a rejection in kind 18 has the line of a rejection without its reason
+  pub older : (account : ℕ) (e : Entry) (rest buffer : List ℕ) → Writable account e → IsRejection (e .told) → reasonIn (e .told) ≡ 0 → 72 ≤ length buffer
+      → lineOfEntry (bytesAs 18 account e ++ rest) buffer
+      ≡ record {
+        lined = record { entry = 18; line = length (lineAs true account e) };
+        buffer = lineAs true account e ++ drop (length (lineAs true account e)) buffer;
       }
   pub none : (bytes buffer : List ℕ) → readOf bytes ≡ Nothing → lineOfEntry bytes buffer ≡ record { lined = record { entry = 0; line = 0 }; buffer = buffer }
   pub short : (bytes buffer : List ℕ) → length buffer < 72 → lineOfEntry bytes buffer ≡ record { lined = record { entry = 0; line = 0 }; buffer = buffer }
