@@ -181,11 +181,10 @@ module _ (words : List ℕ) (from : ℕ) where
       }
 
 kept-plain : KeptPlain
-kept-plain a =
-    (
-      λ k. (k .progress, k .held, k .progressing, k .holding),
-      λ k. record { progress = k .0; held = k .1; progressing = k .2; holding = k .3 },
-    )
+kept-plain a = (
+  λ k. (k .progress, k .held, k .progressing, k .holding),
+  λ k. record { progress = k .0; held = k .1; progressing = k .2; holding = k .3 },
+)
 
 word : Word
 word = record { none = λ i. omega arith; more = λ w words h r i. each w words h r i }

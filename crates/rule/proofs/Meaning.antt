@@ -29,11 +29,10 @@ writes-means progressing holding t g e xs = record { request′ = (λ x. x, λ x
 pub following-means : {G E B : Type 0} (most-applied most-decided : ℕ) (xs : List (Entry G E B)) → FollowingMeans most-applied most-decided xs
 following-means most-applied most-decided xs =
     record {
-      following =
-          (
-            λ f. (f .applications, f .decisions, f .split, f .only-applied, f .only-decided, f .few, f .fewDecided),
-            λ f. record { applications = f .0; decisions = f .1; split = f .2; only-applied = f .3; only-decided = f .4; few = f .5; fewDecided = f .6 },
-          );
+      following = (
+        λ f. (f .applications, f .decisions, f .split, f .only-applied, f .only-decided, f .few, f .fewDecided),
+        λ f. record { applications = f .0; decisions = f .1; split = f .2; only-applied = f .3; only-decided = f .4; few = f .5; fewDecided = f .6 },
+      );
     }
 
 pub end-means : {G E : Type 0} (t k : ℕ) (g : G) (e : E) (f : Fate) (lines : List (Line G E)) → EndMeans t k g e f lines
