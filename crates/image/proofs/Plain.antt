@@ -6,7 +6,7 @@ use mathlib.Core.Path.{_≡_, refl, ap, sym, _∙_}
 use mathlib.Core.Logic.{_⊎_, inl, inr}
 use mathlib.Core.Bool.{Bool, true, false, cond, _&&_}
 use mathlib.Core.List.{List, [], _∷_}
-use borrow.Author.Tests.{eqb-true, le-leb, lt-leb}
+use borrow.Author.Tests.{eqb-true, eq-eqb, le-leb, lt-leb}
 use lib.Dec.{eqb}
 use lib.ListN.{length, getD, drop}
 use lib.Seq.{getD-drop, drop-drop}
@@ -20,8 +20,8 @@ use Rattle.filing.specs.declared.Decision.{Decision}
 use Rattle.filing.specs.declared.Decision.the-variants.{Undecided, Committed}
 use Rattle.filing.specs.Slots.{places}
 use Rattle.image.specs.Words.{lifeWord, eventWord, decisionWord, placeWords, headWords, rowWords, accountWords, wordsOfSlot, wordsOfSlots, wordsOf}
-use Rattle.image.specs.Reading.{lifeFrom, decisionFrom, isDecision, eventFrom, isEvent, isSlot, areSlots, isAccount, fieldsFrom, accountFrom}
-use Rattle.image.specs.Plain.{NinePlain, Word, PlainHolds}
+use Rattle.image.specs.Reading.{lifeFrom, isLife, decisionFrom, isDecision, eventFrom, isEvent, isSlot, areSlots, isAccount, fieldsFrom, accountFrom}
+use Rattle.image.specs.Plain.{NinePlain, EachFits, CountsPlain, KeptPlain, Word, PlainHolds}
 use Rattle.image.proofs.WrittenBack.{Parts, parts}
 
 life-most : (x : Life) → lifeWord x ≤ 2
@@ -115,6 +115,77 @@ module _ (words : List ℕ) (from : ℕ) where
         decision = λ row i room is h bad. nine-unless room (λ b. absurd (omega (arith, valid room row i is h b .decision, word-of row i 4)));
       }
 
+-- and back: words that fit are their fields'
+life-is : (w : ℕ) → w ≤ 2 → isLife w ≡ true
+life-is zero h = refl
+life-is (suc zero) h = refl
+life-is (suc (suc zero)) h = refl
+life-is (suc (suc (suc w))) h = absurd (omega arith)
+
+decision-is : (w : ℕ) → w ≤ 1 → isDecision w ≡ true
+decision-is zero h = refl
+decision-is (suc zero) h = refl
+decision-is (suc (suc w)) h = absurd (omega arith)
+
+event-is : (w a : ℕ) → w ≤ 3 → (w ≡ 3 → a ≡ 0) → isEvent w a ≡ true
+unfolding eventOf
+event-is zero a h z = eq-eqb a a refl
+event-is (suc zero) a h z = eq-eqb a a refl
+event-is (suc (suc zero)) a h z = eq-eqb a a refl
+event-is (suc (suc (suc zero))) a h z = eq-eqb 0 a (sym (z refl))
+event-is (suc (suc (suc (suc w)))) a h z = absurd (omega arith)
+
+place-is : (words : List ℕ) → Place words → isSlot words ≡ true
+unfolding isSlot
+place-is words p = rw (event-is (getD words 2 0) (getD words 3 0) (p .event) (p .amount), decision-is (getD words 4 0) (p .decision)) refl
+
+row-is : (n : ℕ) (words : List ℕ) → ((i : ℕ) → i < n → isSlot (drop (i * placeWords) words) ≡ true) → areSlots n words ≡ true
+unfolding areSlots
+row-is zero words each = refl
+row-is (suc n) words each = rw (each 0 (omega arith), row-is n (drop placeWords words) behind) refl
+  where
+    behind : (i : ℕ) → i < n → isSlot (drop (i * placeWords) (drop placeWords words)) ≡ true
+    behind i h =
+        let step : placeWords + i * placeWords ≡ suc i * placeWords = omega arith in
+        ap (λ (l : List ℕ). isSlot l) (drop-drop (i * placeWords) placeWords words ∙ ap (λ (k : ℕ). drop k words) step) ∙ each (suc i) (omega arith)
+
+module _ (words : List ℕ) (from : ℕ) where
+  head-of : (k : ℕ) → getD (drop from words) k 0 ≡ getD words (from + k) 0
+  head-of k = getD-drop from words k 0
+
+  module _ (fits : EachFits words from) where
+    place-of : (row i : ℕ) → (row ≡ 4) ⊎ (row ≡ 44) → i < 8 → Place (drop (i * placeWords) (drop row (drop from words)))
+    place-of row i is h =
+        record {
+          event = rw (word-of words from row i 2) (fits .event row i is h);
+          amount = λ z. word-of words from row i 3 ∙ fits .amount row i is h (sym (word-of words from row i 2) ∙ z);
+          decision = rw (word-of words from row i 4) (fits .decision row i is h);
+        }
+
+    row-fits : (row : ℕ) → (row ≡ 4) ⊎ (row ≡ 44) → areSlots places (drop row (drop from words)) ≡ true
+    row-fits row is = row-is places (drop row (drop from words)) (λ i h. place-is (drop (i * placeWords) (drop row (drop from words))) (place-of row i is h))
+
+    account-fits : isAccount (drop from words) ≡ true
+    unfolding isAccount
+    account-fits =
+        let here : getD (drop from words) 0 0 ≡ getD words from 0 = head-of 0 ∙ ap (λ (n : ℕ). getD words n 0) (omega arith) in
+        rw (life-is (getD (drop from words) 0 0) (rw here (fits .life)), row-fits 4 (inl refl), row-fits 44 (inr refl)) refl
+
+  counts-plain : CountsPlain words from
+  unfolding accountFrom fieldsFrom
+  counts-plain =
+      record {
+        progressing = λ room fits. rw (le-leb (from + accountWords) (length words) room, account-fits fits) (head-of 2);
+        holding = λ room. rw (le-leb (from + accountWords) (length words) room) (head-of 3);
+        balance = λ room. rw (le-leb (from + accountWords) (length words) room) (head-of 1);
+      }
+
+kept-plain : KeptPlain
+kept-plain a = (
+  λ k. (k .progress, k .held, k .progressing, k .holding),
+  λ k. record { progress = k .0; held = k .1; progressing = k .2; holding = k .3 },
+)
+
 word : Word
 word = record { none = λ i. omega arith; more = λ w words h r i. each w words h r i }
   where
@@ -142,5 +213,7 @@ plain-holds =
       row = λ x row. record { none = refl; more = refl };
       account = λ b n m progress held. record { new = refl; opened = refl; closed = refl };
       nine = nine-plain;
+      counts = counts-plain;
+      kept = kept-plain;
       words = word;
     }

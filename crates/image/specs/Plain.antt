@@ -3,7 +3,7 @@
 -- Assumes nothing.
 use Prim.Native.Nat.{ℕ, _+_, _*_, _≤_, _<_, min}
 use mathlib.Core.Path.{_≡_}
-use mathlib.Core.Logic.{_⊎_}
+use mathlib.Core.Logic.{_↔_, _⊎_}
 use mathlib.Core.List.{List, [], _∷_, _++_, map}
 use lib.ListN.{length, getD, replicate}
 use Rattle.events.specs.declared.Event.the-variants.{Open, Withdraw, Deposit, Close}
@@ -13,7 +13,7 @@ use Rattle.filing.specs.declared.Slot.{Slot}
 use Rattle.account.specs.declared.Account.{Account}
 use Rattle.image.specs.Words.{mostWord, lifeWord, decisionWord, filedWords, eventPlace, amountPlace, decisionPlace, placeWords, headWords, rowWords, accountWords, wordsOfSlot, wordsOfSlots, wordsOf}
 use Rattle.image.specs.Reading.{tooMany, accountFrom}
-use Rattle.image.specs.Images.{AreWords}
+use Rattle.image.specs.Images.{AreWords, Kept}
 
 -- a place: transaction, second, event, amount, decision
 pub record PlacePlain (t s a : ℕ) : Type 0 where
@@ -51,6 +51,25 @@ pub record NinePlain (words : List ℕ) (from : ℕ) : Type 0 where
       → accountFrom words from .progressing ≡ 9
   pub decision : (row i : ℕ) → from + 84 ≤ length words → (row ≡ 4) ⊎ (row ≡ 44) → i < 8 → 1 < getD words (from + row + 5 * i + 4) 0 → accountFrom words from .progressing ≡ 9
 
+-- every word is one of its field's: the life, and in each place of either row the event, the amount of a Close, and the decision
+pub record EachFits (words : List ℕ) (from : ℕ) : Type 0 where
+  pub life : getD words from 0 ≤ 2
+  pub event : (row i : ℕ) → (row ≡ 4) ⊎ (row ≡ 44) → i < 8 → getD words (from + row + 5 * i + 2) 0 ≤ 3
+  pub amount : (row i : ℕ) → (row ≡ 4) ⊎ (row ≡ 44) → i < 8 → getD words (from + row + 5 * i + 2) 0 ≡ 3 → getD words (from + row + 5 * i + 3) 0 ≡ 0
+  pub decision : (row i : ℕ) → (row ≡ 4) ⊎ (row ≡ 44) → i < 8 → getD words (from + row + 5 * i + 4) 0 ≤ 1
+
+-- there both counts are their words, however high they are, and the balance is always its word
+pub record CountsPlain (words : List ℕ) (from : ℕ) : Type 0 where
+  pub progressing : from + 84 ≤ length words → EachFits words from → accountFrom words from .progressing ≡ getD words (from + 2) 0
+  pub holding : from + 84 ≤ length words → accountFrom words from .holding ≡ getD words (from + 3) 0
+  pub balance : from + 84 ≤ length words → accountFrom words from .state .balance ≡ getD words (from + 1) 0
+
+-- an account as it is kept, both ways: eight places in each row, and counts that are words, whatever words
+abbrev pub KeptPlain : Type 0
+KeptPlain =
+    (a : Account)
+    → Kept a ↔ ((length (a .progress) ≡ 8) × (length (a .held) ≡ 8) × (a .progressing ≤ 4_294_967_295) × (a .holding ≤ 4_294_967_295))
+
 -- a list of numbers up to the highest word is one of words
 pub record Word : Type 0 where
   pub none : AreWords []
@@ -70,4 +89,6 @@ pub record PlainHolds : Type 0 where
   pub row : (x : Slot) (row : List Slot) → RowPlain x row
   pub account : (b n m : ℕ) (progress held : List Slot) → AccountPlain b n m progress held
   pub nine : (words : List ℕ) (from : ℕ) → NinePlain words from
+  pub counts : (words : List ℕ) (from : ℕ) → CountsPlain words from
+  pub kept : KeptPlain
   pub words : Word

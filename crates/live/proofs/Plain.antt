@@ -43,6 +43,7 @@ registers-plain =
       more = λ a accounts. refl;
       kept = λ a accounts. (λ k. k, λ k. k);
       noneKept = tt;
+      keptWhole = λ r. (λ k. (k .sixteen, k .each), λ k. record { sixteen = k .0; each = k .1 });
       own = own-words;
     }
 

@@ -22,12 +22,14 @@ use Rattle.entry.specs.Bytes.{bytesOfEntries}
 use Rattle.image.specs.Words.{wordsOf, storedIn}
 use Rattle.image.specs.Reading.{accountFrom}
 use Rattle.image.specs.Images.{Kept}
+use Rattle.register.specs.declared.Register.{Register}
 use Rattle.register.specs.declared.Reply.the-variants.{Refused, Taken}
 use Rattle.register.specs.Register.{nowhere, ruleMessage}
 use Rattle.register.specs.Call.{calledBy}
 use Rattle.register.specs.Sequence.{Input}
 use Rattle.live.specs.Registers.{wordAt, registerWords, imageOf, registerOf}
 use Rattle.live.specs.Images.{EachKept}
+use Rattle.live.specs.Images as Images′
 use Rattle.live.specs.Live.{liveBy, lookBy}
 use Rattle.live.specs.Exports.{exportedCall, exportedLook, exportedLine}
 use Rattle.live.specs.Keeping.{ownWords, imageAfterAll, liveExchanges}
@@ -42,6 +44,8 @@ pub record RegisterPlain : Type 0 where
   pub more : (a : Account) (accounts : List Account) → imageOf (record { accounts = a ∷ accounts }) ≡ wordsOf a ++ imageOf (record { accounts = accounts })
   pub kept : (a : Account) (accounts : List Account) → EachKept (a ∷ accounts) ↔ (Kept a × EachKept accounts)
   pub noneKept : EachKept []
+  -- a register as it is kept has sixteen accounts, each kept, and nothing else is asked of it
+  pub keptWhole : (r : Register) → Images′.Kept r ↔ ((length (r .accounts) ≡ 16) × EachKept (r .accounts))
   -- the words of an account are the 84 behind those of the accounts before it
   pub own : (i : ℕ) (before words behind : List ℕ) → length before ≡ i * 84 → length words ≡ 84 → ownWords (before ++ (words ++ behind)) i ≡ words
 

@@ -31,3 +31,4 @@ pub mod Demands
 pub mod Samples
 pub mod Forms
 pub mod Plain
+pub mod Meaning

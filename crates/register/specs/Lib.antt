@@ -17,4 +17,5 @@ pub mod Demands
 pub mod Samples
 pub mod Forms
 pub mod Plain
+pub mod Meaning
 pub mod Helpers

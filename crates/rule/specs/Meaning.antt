@@ -9,7 +9,7 @@ use Rattle.rule.specs.Rule.{Rule, Decision, undecided, committed, Slot, 
 use Rattle.rule.specs.Call.{refused, taken, written, call}
 use Rattle.rule.specs.Run.{run}
 use Rattle.rule.specs.Vote.{Vote}
-use Rattle.rule.specs.Written.{Following, Writes}
+use Rattle.rule.specs.Written.{OnlyApplied, OnlyDecided, Following, Writes}
 use Rattle.rule.specs.Refusals.{InProgress, OnHold, IsCommitted, Gives, LeavesIt}
 use Rattle.rule.specs.History.{Fate, waiting, ongoing, wasApplied, wasDropped, Line, line, fateBy, note, begun, afterCall, Seen}
 use Rattle.rule.specs.Demand.{endsOf, inProgress, onHold, appliedEvents, OneEnd, Turns, Owned, AllOwned, Answers, HistoryOwned}
@@ -62,6 +62,13 @@ module _ {G E B : Type 0} where
         ↔ ((g′ : G) × (e′ : E) × (rest : List (Entry G E B)) × (most-applied : ℕ) × (most-decided : ℕ) × (xs ≡ dropped t g′ e′ ∷ rest)
         × Following most-applied most-decided rest
         × (most-applied ≤ progressing) × (most-decided ≤ holding) × (most-applied + most-decided < progressing + holding))
+
+  -- the entries behind a call's own: first those of events applied, then the votes, and of each no more than so many
+  pub record FollowingMeans (most-applied most-decided : ℕ) (xs : List (Entry G E B)) : Type 0 where
+    pub following :
+        Following most-applied most-decided xs
+        ↔ ((applications : List (Entry G E B)) × (decisions : List (Entry G E B)) × (xs ≡ applications ++ decisions) × OnlyApplied applications × OnlyDecided decisions
+        × (length applications ≤ most-applied) × (length decisions ≤ most-decided))
 
 -- the number beside a line
 pub record EndMeans {G E : Type 0} (t k : ℕ) (g : G) (e : E) (f : Fate) (lines : List (Line G E)) : Type 0 where
