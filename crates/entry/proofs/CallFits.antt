@@ -12,19 +12,15 @@ use borrow.Author.Tests.{ltb-false, le-ltb, leb-true}
 use lib.Dec.{leb, ltb, lit≤}
 use lib.ListN.{length, length-append}
 use Rattle.rule.specs.Rule as rule
-use Rattle.rule.specs.Rule.{Rule, guard}
-use Rattle.rule.specs.Outcome.{outcomes}
-use Rattle.rule.specs.Weigh.{weigh, decide}
+use Rattle.rule.specs.Rule.{Rule}
 use Rattle.rule.specs.InOrder.{isInOrder}
-use Rattle.rule.specs.Step.{settle, committing, step}
+use Rattle.rule.specs.Step.{step}
 use Rattle.rule.specs.Call as call
 use Rattle.rule.specs.Written.{OnlyApplied, OnlyDecided, Following, Writes}
 use Rattle.rule.proofs.Lists.{and-left, and-right}
 use Rattle.rule.proofs.InOrder.{order-clauses}
 use Rattle.rule.proofs.Written.{step-shape}
 use Rattle.events.specs.declared.Event.{Event}
-use Rattle.events.specs.declared.Event.the-variants.{Open, Withdraw, Deposit, Close}
-use Rattle.events.specs.declared.Life.the-variants.{New}
 use Rattle.events.specs.declared.State.{State}
 use Rattle.filing.specs.declared.Filed.{Filed}
 use Rattle.filing.specs.Slots.{places, blankFiled}
@@ -34,7 +30,7 @@ use Rattle.layout.specs.Fields.{rowOfKind}
 use Rattle.layout.specs.Answers.{saidOfWriting, wroteOver, refusedWith}
 use Rattle.entry.specs.Bytes.{entryRows, lengthOfTold, bytesOfEntries, wholesOf, listOf}
 use Rattle.entry.specs.Answers.{longestCall, writeOf}
-use Rattle.entry.specs.Longest.{CallFits, CallsFit, CallsRefused, fullAccount, LongestBy, LongestThereIs}
+use Rattle.entry.specs.Longest.{CallFits, CallsFit, CallsRefused, fullAccount, filling, LongestBy}
 use Rattle.entry.proofs.Longest.{vote-short}
 use Rattle.entry.proofs.Stored.{length-entries, wholes-append}
 
@@ -163,32 +159,9 @@ calls-refused xs fit account buffer = go (ltb (length buffer) longestCall) refl
         let short : length bytes ≤ longestCall = fit .bytes account in
         rw (le-ltb (length buffer) (length bytes) (omega arith))
 
--- for a rule it is enough to compute two things
-pub longest-by : (R : Rule State Event ℕ) → isInOrder R fullAccount ≡ true
+-- for a rule it is enough to compute three things
+pub longest-by : (R : Rule State Event ℕ) → isInOrder R fullAccount ≡ true → call.reached R (rule.newAccount R Filed) filling ≡ fullAccount
     → wholesOf (map entryOf (call.written (call.call R fullAccount (rule.commit 1 blankFiled) .answer))) ≡ longestCall → LongestBy R
-longest-by R o e =
+longest-by R o r e =
     let xs = call.written (call.call R fullAccount (rule.commit 1 blankFiled) .answer) in
-    record { ordered = o; bytes = λ account. rw (listed xs) (length-entries account (map entryOf xs) ∙ e) }
-
--- a rule that has too few steps for every withdrawal and allows all else, and whose events change nothing
-abbrev reasonIdle : Event → State → Option ℕ
-reasonIdle (Open a) s = none
-reasonIdle (Withdraw a) s = some 3
-reasonIdle (Deposit a) s = none
-reasonIdle Close s = none
-
-abbrev idle : Rule State Event ℕ
-idle =
-    record {
-      reason = reasonIdle;
-      effect = λ e s. s;
-      fresh = record { life = New; balance = 0 };
-      shown = λ (s : State). s .balance;
-      fits = λ s. true;
-      progressLimit = places;
-      heldLimit = places;
-    }
-
-pub longest-there-is : LongestThereIs
-unfolding guard isInOrder outcomes weigh decide call.call settle committing wholesOf lengthOfTold rowOfKind entryRows
-longest-there-is = record { by = idle; progress = refl; held = refl; longest = longest-by idle refl refl }
+    record { ordered = o; reached = r; bytes = λ account. rw (listed xs) (length-entries account (map entryOf xs) ∙ e) }

@@ -4,17 +4,17 @@
 use Prim.Native.Nat.{ℕ, _+_, _*_, _≤_}
 use mathlib.Core.Path.{_≡_}
 use mathlib.Core.Bool.{Bool, true, false}
-use mathlib.Core.List.{List, [], _∷_, _++_}
+use mathlib.Core.List.{List, [], _∷_, _++_, map}
 use lib.Dec.{ltb}
 use lib.ListN.{length}
-use Rattle.rule.specs.Lists.{every, keep}
+use Rattle.rule.specs.Lists.{every, keep, numbers}
 use Rattle.rule.specs.Rule as rule
 use Rattle.rule.specs.Tests.{test, firstOf}
 use Rattle.rule.specs.Call as call
 use Rattle.rule.specs.InOrder.{isInOrder}
 use Rattle.rule.specs.Written.{Writes}
 use Rattle.events.specs.declared.Event.{Event}
-use Rattle.events.specs.declared.Event.the-variants.{Withdraw, Deposit}
+use Rattle.events.specs.declared.Event.the-variants.{Open, Withdraw, Deposit}
 use Rattle.events.specs.declared.Life.the-variants.{Opened}
 use Rattle.events.specs.declared.State.{State}
 use Rattle.filing.specs.declared.Filed.{Filed}
@@ -109,15 +109,16 @@ fullAccount =
           withdrawal 9 ∷ withdrawal 10 ∷ withdrawal 11 ∷ withdrawal 12 ∷ withdrawal 13 ∷ withdrawal 14 ∷ withdrawal 15 ∷ withdrawal 16 ∷ [];
     }
 
--- by this rule it is in order, and the commit of its oldest event writes as much as any call can
+-- the messages that lead there from a new account: an open of 100 and its commit, the deposits, the commits of all but the oldest, the withdrawals
+abbrev pub filling : List (rule.Message Filed Event)
+filling =
+    rule.request 17 blankFiled (Open 100) ∷ rule.commit 17 blankFiled ∷
+    (map (λ (t : ℕ). rule.request t blankFiled (Deposit 1)) (numbers 1 8)
+    ++ (map (λ (t : ℕ). rule.commit t blankFiled) (numbers 2 7) ++ map (λ (t : ℕ). rule.request t blankFiled (Withdraw 109)) (numbers 9 8)))
+
+-- by this rule it is in order, these messages lead there, and the commit of its oldest event writes as much as any call can
 pub record LongestBy (R : rule.Rule State Event ℕ) : Type 0 where
   pub ordered : isInOrder R fullAccount ≡ true
+  pub reached : call.reached R (rule.newAccount R Filed) filling ≡ fullAccount
   pub bytes : (account : ℕ)
       → length (bytesOfEntries account (listOf (entriesOf (call.written (call.call R fullAccount (rule.commit 1 blankFiled) .answer))))) ≡ 323
-
--- there is such a rule, with as many places as an account has
-pub record LongestThereIs : Type 0 where
-  pub by : rule.Rule State Event ℕ
-  pub progress : by .progressLimit ≡ places
-  pub held : by .heldLimit ≡ places
-  pub longest : LongestBy by

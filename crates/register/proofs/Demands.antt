@@ -12,6 +12,7 @@ use Rattle.register.specs.Demands.{Demand1, Demand2, Demand3, RunHolds}
 use Rattle.register.proofs.Suits.{first-suits}
 use Rattle.register.proofs.Unchanged.{send-leaves, refusal, call-takes}
 use Rattle.register.proofs.Refusals.{send-refuses, call-refuses, outlook-tells}
+use Rattle.register.proofs.Longest.{longest}
 use Rattle.register.proofs.AsTheRule.{as-the-rule, sent-as-the-rule}
 use Rattle.register.proofs.Sends.{call-is-send, sent-reads-back}
 use Rattle.register.proofs.Own.{each-own-entry}
@@ -36,6 +37,7 @@ demand1 =
       leaves = send-leaves panel;
       refused = refusal panel first-suits;
       taken = call-takes panel first-suits;
+      longest = longest;
       asked = outlook-tells panel;
       read = reader-refuses;
       written = writer-refuses;

@@ -27,6 +27,7 @@ pub mod Votes
 pub mod Accounts
 pub mod RunCalls
 pub mod RunSeconds
+pub mod Longest
 pub mod Demands
 pub mod Samples
 pub mod Forms

@@ -30,6 +30,7 @@ use Rattle.message.specs.Answers.{readOf}
 use Rattle.message.specs.Inverse.{ReadsWritten, WritesRead}
 use Rattle.message.specs.Refusals.{ReaderRefuses, WriterRefuses}
 use Rattle.entry.specs.Bytes.{bytesOfEntries}
+use Rattle.entry.specs.Longest.{LongestBy}
 use Rattle.register.specs.declared.Register.{Register}
 use Rattle.register.specs.declared.Sent.{Sent}
 use Rattle.register.specs.Register.{ruleMessage}
@@ -88,6 +89,8 @@ pub record Demand1 : Type 0 where
   pub leaves : (r : Register) (m : Message) → SendLeaves panel r m
   pub refused : (r : Register) (bytes buffer : List ℕ) (n : ℕ) → refusalOf (callOf r bytes buffer .reply) ≡ some n → Refusal panel r bytes buffer n
   pub taken : (r : Register) (bytes buffer : List ℕ) → refusalOf (callOf r bytes buffer .reply) ≡ none → Taking panel r bytes buffer
+  -- no smaller buffer would do for every call: there is one that writes 323 bytes;
+  pub longest : LongestBy panel
   -- what the outcome question answers;
   pub asked : OutlookTells panel
   -- and when the message reader and the message writer refuse by themselves
