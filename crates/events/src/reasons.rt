@@ -16,7 +16,12 @@ impl Event {
         let balance = state.balance;
         match self {
             Event::Open(amount) => first(!life.is_new(), false, false, State::LIMIT < amount),
-            Event::Withdraw(amount) => first(!life.is_opened(), amount == 0, balance < amount, false),
+            Event::Withdraw(amount) => first(
+                !life.is_opened(),
+                amount == 0,
+                balance < amount,
+                false,
+            ),
             Event::Deposit(amount) => first(
                 !life.is_opened(),
                 amount == 0,

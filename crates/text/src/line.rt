@@ -25,7 +25,13 @@ pub fn write_line(entry: Entry, kind: u8, account: u16, buffer: &mut [u8]) -> Wr
 }
 
 // Stores the line of an entry of that account from `at` on. Its pieces have 84 bytes at most, each by itself; the line has fewer, since an account's number is short.
-pub(crate) fn put_line(buffer: &mut [u8], at: usize, entry: Entry, older: bool, account: u16) -> usize
+pub(crate) fn put_line(
+    buffer: &mut [u8],
+    at: usize,
+    entry: Entry,
+    older: bool,
+    account: u16,
+) -> usize
     requires { ⌜ at + 84 ≤ farthest ⌝ }
     ensures { λ r. ⌜ Put (lineAs older account entry) at longestLine (now (buffer .entry)) r (now (buffer .exit)) ⌝ }
 {
