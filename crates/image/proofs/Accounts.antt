@@ -1,21 +1,23 @@
 -- An account in words: where each field stands behind the account's beginning, and its words stored one after the other.
 -- Assumes nothing.
-use Prim.Native.Nat.{ℕ, _+_, _≤_, min}
+use Prim.Native.Nat.{ℕ, _+_, _*_, _≤_, min}
 use native.Mathlib.Nat.{add-zero, add-assoc, min-eq-left}
 use native.Mathlib.Omega.{arith}
 use mathlib.Core.Path.{_≡_, refl, ap, sym, _∙_}
 use mathlib.Core.Bool.{Bool, true, false, cond, _&&_}
-use mathlib.Core.List.{List}
+use mathlib.Core.List.{List, _++_}
 use borrow.Author.Tests.{leb-true, leb-false, le-leb}
 use lib.Dec.{eqb, leb}
-use lib.ListN.{length, getD, take, drop}
+use lib.ListN.{length, getD, take, drop, length-append}
 use lib.Seq.{sets, getD-drop, drop-drop, take-all}
+use Rattle.layout.proofs.Stores.{sets-more}
 use Rattle.events.specs.declared.Life.{Life}
 use Rattle.filing.specs.declared.Slot.{Slot}
 use Rattle.filing.specs.Slots.{places}
 use Rattle.account.specs.declared.Account.{Account}
-use Rattle.image.specs.Words.{lifeWord, wordsOfSlots, headWords, rowWords, accountWords, headOf, storedTo}
+use Rattle.image.specs.Words.{lifeWord, placeWords, wordsOfSlots, headWords, rowWords, accountWords, headOf, wordsOf, storedIn, storedTo}
 use Rattle.image.specs.Reading.{lifeFrom, isLife, slotsFrom, areSlots, tooMany, isAccount, fieldsFrom}
+use Rattle.image.proofs.Rows.{length-slots}
 
 module _ (words : List ℕ) (from : ℕ) where
   is-account-at : isAccount (drop from words)
@@ -74,3 +76,20 @@ account-stored a n m k j l l₁ l₂ l₃ from p q room few fewHeld e₁ e₂ e�
     let first : take k (a .progress) ≡ take n (a .progress) = rw few (rw p at (take-min n (a .progress))) in
     let second : take j (a .held) ≡ take m (a .held) = rw fewHeld (rw q at (take-min m (a .held))) in
     rw (le-leb (from + accountWords) (length l) room, ← first, ← second, ← e₁, ← e₂) e₃
+
+-- all of each row is all of the account
+module _ (a : Account) (l : List ℕ) (from : ℕ) (p : length (a .progress) ≡ places) where
+  pub rows-stored : sets (sets (sets l from (headOf a)) (from + headWords) (wordsOfSlots (a .progress))) (from + headWords + rowWords) (wordsOfSlots (a .held)) ≡ sets l from (wordsOf a)
+  unfolding wordsOf
+  rows-stored =
+      let head = sets l from (headOf a) in
+      let progress = sets head (from + headWords) (wordsOfSlots (a .progress)) in
+      let row : length (wordsOfSlots (a .progress)) ≡ rowWords = length-slots (a .progress) ∙ ap (λ (n : ℕ). n * placeWords) p in
+      let front : length (headOf a ++ wordsOfSlots (a .progress)) ≡ headWords + rowWords = length-append (headOf a) (wordsOfSlots (a .progress)) ∙ ap (_+_ headWords) row in
+      sets-more (headOf a ++ wordsOfSlots (a .progress)) (wordsOfSlots (a .held)) l progress _ from (headWords + rowWords) front
+      (sets-more (headOf a) (wordsOfSlots (a .progress)) l head progress from headWords refl refl refl)
+      (rw add-assoc refl)
+
+  pub all-stored : length (a .held) ≡ places → storedTo l from a places places ≡ storedIn l from a
+  unfolding storedTo storedIn
+  all-stored q = rw (take-all places (a .progress) (omega arith), take-all places (a .held) (omega arith), rows-stored) refl

@@ -20,11 +20,12 @@ use Rattle.filing.proofs.Slots.{blank-place}
 use Rattle.account.specs.declared.Account.{Account}
 use Rattle.account.specs.InOrder.{inOrderBy}
 use Rattle.account.proofs.Clauses.{clauses}
-use Rattle.layout.proofs.Stores.{sets-append, sets-more}
-use Rattle.image.specs.Words.{placeWords, wordsOfSlot, wordsOfSlots, headWords, rowWords, accountWords, headOf, wordsOf, storedIn, storedTo}
+use Rattle.layout.proofs.Stores.{sets-append}
+use Rattle.image.specs.Words.{placeWords, wordsOfSlot, wordsOfSlots, headWords, rowWords, accountWords, headOf, storedIn, storedTo}
 use Rattle.image.specs.Reading.{slotsFrom, areSlots, isAccount, fieldsFrom, accountFrom}
 use Rattle.image.specs.Images.{UsedSuffice}
 use Rattle.image.proofs.Rows.{length-slots}
+use Rattle.image.proofs.Accounts.{rows-stored}
 use Rattle.image.proofs.WrittenBack.{slots-written, length-slotsFrom, parts, ordered, ordered-room, read-so}
 
 -- ---- blanks
@@ -167,7 +168,7 @@ module _ (R : Rule State Event ℕ) (few : R .progressLimit ≤ places) where
         row-stands (read behind) row k (from + at) words (length-read ∙ sym size) same (omega (arith, there, row-size (read behind) length-read)) (row-written at there valid)
 
     used-stored : known .progressing ≤ n → a .progressing ≤ n → known .holding ≤ m → a .holding ≤ m → storedTo words from a n m ≡ storedIn words from a
-    unfolding storedTo storedIn wordsOf
+    unfolding storedTo storedIn
     used-stored k₁ k₂ k₃ k₄ =
         let valid = parts (drop from words) (ordered R few words from h .1) in
         let before = clauses R known h in
@@ -190,11 +191,7 @@ module _ (R : Rule State Event ℕ) (few : R .progressLimit ≤ places) where
         let held-stands = row-left (headWords + rowWords) m (known .holding) (a .holding) (known .held) (a .held) (omega (arith, room)) (valid .held) read-held (before .blanksHeld) k₃ q (after .blanksHeld) k₄ in
         let held-stored : sets progress at-held second ≡ sets progress at-held (wordsOfSlots (a .held)) =
         row-stored (a .held) m at-held progress (omega (arith, room, size-head, size-progress, size-held)) (ap (take (length (wordsOfSlots (drop m (a .held))))) held-left ∙ held-stands) in
-        let front : length (headOf a ++ wordsOfSlots (a .progress)) ≡ headWords + rowWords = length-append (headOf a) (wordsOfSlots (a .progress)) ∙ ap (_+_ headWords) size in
-        let whole : sets progress at-held (wordsOfSlots (a .held)) ≡ sets words from (headOf a ++ wordsOfSlots (a .progress) ++ wordsOfSlots (a .held)) =
-        sets-more (headOf a ++ wordsOfSlots (a .progress)) (wordsOfSlots (a .held)) words progress (sets progress at-held (wordsOfSlots (a .held))) from (headWords + rowWords) front
-        (sets-more (headOf a) (wordsOfSlots (a .progress)) words head progress from headWords refl refl refl) refl in
-        rw (le-leb (from + accountWords) (length words) room, progress-stored, add-assoc) (held-stored ∙ whole)
+        rw (le-leb (from + accountWords) (length words) room, progress-stored, add-assoc) (held-stored ∙ rw add-assoc at (rows-stored a words from p))
 
 pub used-suffice : (R : Rule State Event ℕ) → R .progressLimit ≤ 8 → UsedSuffice R
 used-suffice R few words from n m a h g p q k₁ k₂ k₃ k₄ = used-stored R few words from n m a h g p q k₁ k₂ k₃ k₄

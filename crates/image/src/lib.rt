@@ -14,7 +14,7 @@ ghost use lib.Dec.{leb};
 ghost use lib.ListN.{length, take, drop};
 ghost use lib.Seq.{sets};
 ghost use Rattle.filing.specs.Slots.{places};
-ghost use Rattle.image.specs.Words.{lifeWord, countWord, placeWords, headWords, rowWords, accountWords, storedTo};
+ghost use Rattle.image.specs.Words.{lifeWord, countWord, placeWords, headWords, rowWords, accountWords, storedIn, storedTo};
 ghost use Rattle.image.specs.Reading.{areZero, tooMany, accountFrom};
 
 // The words of what is filed with an event.
@@ -88,8 +88,15 @@ pub fn read_account(image: &[u32], from: usize) -> Account
     account
 }
 
-// Stores the image of an account from `from` on, but so many places alone of those in progress and of those held; where there is no room for all of the image, nothing.
-pub fn put_account(image: &mut [u32], from: usize, account: Account, progress: usize, held: usize)
+// Stores the image of an account from `from` on; where there is no room for all of it, nothing.
+pub fn put_account(image: &mut [u32], from: usize, account: Account)
+    ensures { λ _. ⌜ now (image .exit) ≡ storedIn (now (image .entry)) from account ⌝ }
+{
+    put_used(image, from, account, Account::PLACES, Account::PLACES);
+}
+
+// The same, but so many places alone of those in progress and of those held: enough where the account that stands there has only blanks behind them, and this one too.
+pub fn put_used(image: &mut [u32], from: usize, account: Account, progress: usize, held: usize)
     ensures { λ _. ⌜ now (image .exit) ≡ storedTo (now (image .entry)) from account progress held ⌝ }
 {
     if has_room(image.len(), from) {

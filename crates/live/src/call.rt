@@ -36,7 +36,7 @@ pub fn call_image(image: &mut [u32], bytes: &[u8], buffer: &mut [u8]) -> Reply
             let reply = file_vote(answer, vote, heading.account, consumed, buffer);
             let next = stepped.account;
             if is_taken(reply) {
-                image::put_account(
+                image::put_used(
                     image,
                     numbers::word_at(heading.account),
                     next,
@@ -54,7 +54,7 @@ pub fn call_image(image: &mut [u32], bytes: &[u8], buffer: &mut [u8]) -> Reply
             let reply = file(answer, stepped.entries, heading.account, consumed, buffer);
             let next = stepped.account;
             if is_taken(reply) {
-                image::put_account(
+                image::put_used(
                     image,
                     numbers::word_at(heading.account),
                     next,
@@ -72,7 +72,7 @@ pub fn call_image(image: &mut [u32], bytes: &[u8], buffer: &mut [u8]) -> Reply
             let reply = file(answer, stepped.entries, heading.account, consumed, buffer);
             let next = stepped.account;
             if is_taken(reply) {
-                image::put_account(
+                image::put_used(
                     image,
                     numbers::word_at(heading.account),
                     next,

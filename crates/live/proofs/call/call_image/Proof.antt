@@ -125,8 +125,8 @@ greater-requires c κs = search needs
 greater-requires-2 : tie.Need-greater-requires-2
 greater-requires-2 c κs = search needs
 
-put-account-requires : tie.Need-put-account-requires
-put-account-requires c κs = search needs
+put-used-requires : tie.Need-put-used-requires
+put-used-requires c κs = search needs
 
 enum-known-message-2 : tie.Need-enum-known-message-2
 enum-known-message-2 c = search needs
@@ -192,8 +192,8 @@ greater-requires-3 c κs = search needs
 greater-requires-4 : tie.Need-greater-requires-4
 greater-requires-4 c κs = search needs
 
-put-account-requires-2 : tie.Need-put-account-requires-2
-put-account-requires-2 c κs = search needs
+put-used-requires-2 : tie.Need-put-used-requires-2
+put-used-requires-2 c κs = search needs
 
 enum-known-message-3 : tie.Need-enum-known-message-3
 enum-known-message-3 c = search needs
@@ -259,8 +259,8 @@ greater-requires-5 c κs = search needs
 greater-requires-6 : tie.Need-greater-requires-6
 greater-requires-6 c κs = search needs
 
-put-account-requires-3 : tie.Need-put-account-requires-3
-put-account-requires-3 c κs = search needs
+put-used-requires-3 : tie.Need-put-used-requires-3
+put-used-requires-3 c κs = search needs
 
 same-length : tie.Need-same-length
 same-length c = search needs
@@ -283,8 +283,8 @@ returns-3 c =
     call-taken _ first-suits (a .image .now) (a .bytes .now) (a .buffer .now) (requested-sent read) (requested-read read .reading .given .0 .1 .0) (read .read-account .result) (requested read)
     (stepped .request .result) (stepped .request .ensures) _ (vote-finished _ _ _ _ _ _ (a .image .now) (a .buffer .now) _ _ (stepped .request .result) (stepped .request .ensures)) (filed .result) _ (filed .ensures .0) (filed .ensures .1)
     (told .is-taken .result) (told .is-taken .ensures) (at-if .if2 .taken)
-    (at-word .word-at2 .result) (at-greater .before .greater .result) (at-greater .greater2 .result) (at-put .put-account .last .0)
-    (at-word .word-at2 .ensures) (at-greater .before .greater .ensures) (at-greater .greater2 .ensures) (at-put .put-account .ensures)
+    (at-word .word-at2 .result) (at-greater .before .greater .result) (at-greater .greater2 .result) (at-put .put-used .last .0)
+    (at-word .word-at2 .ensures) (at-greater .before .greater .ensures) (at-greater .greater2 .ensures) (at-put .put-used .ensures)
 
 same-length-3 : tie.Need-same-length-3
 same-length-3 c = search needs
@@ -325,8 +325,8 @@ returns-5 c =
     call-taken _ first-suits (a .image .now) (a .bytes .now) (a .buffer .now) (committed-sent read) (committed-read read .reading .given .0 .1 .0) (read .read-account2 .result) (committed read)
     (stepped .commit .result) (stepped .commit .ensures) _ (refl) (filed .result) _ (filed .ensures .0) (filed .ensures .1)
     (told .is-taken2 .result) (told .is-taken2 .ensures) (at-if .if3 .taken)
-    (at-word .word-at4 .result) (at-greater .before .greater3 .result) (at-greater .greater4 .result) (at-put .put-account2 .last .0)
-    (at-word .word-at4 .ensures) (at-greater .before .greater3 .ensures) (at-greater .greater4 .ensures) (at-put .put-account2 .ensures)
+    (at-word .word-at4 .result) (at-greater .before .greater3 .result) (at-greater .greater4 .result) (at-put .put-used2 .last .0)
+    (at-word .word-at4 .ensures) (at-greater .before .greater3 .ensures) (at-greater .greater4 .ensures) (at-put .put-used2 .ensures)
 
 same-length-7 : tie.Need-same-length-7
 same-length-7 c = search needs
@@ -367,8 +367,8 @@ returns-7 c =
     call-taken _ first-suits (a .image .now) (a .bytes .now) (a .buffer .now) (aborted-sent read) (aborted-read read .reading .given .0 .1 .0) (read .read-account3 .result) (aborted read)
     (stepped .abort .result) (stepped .abort .ensures) _ (refl) (filed .result) _ (filed .ensures .0) (filed .ensures .1)
     (told .is-taken3 .result) (told .is-taken3 .ensures) (at-if .if4 .taken)
-    (at-word .word-at6 .result) (at-greater .before .greater5 .result) (at-greater .greater6 .result) (at-put .put-account3 .last .0)
-    (at-word .word-at6 .ensures) (at-greater .before .greater5 .ensures) (at-greater .greater6 .ensures) (at-put .put-account3 .ensures)
+    (at-word .word-at6 .result) (at-greater .before .greater5 .result) (at-greater .greater6 .result) (at-put .put-used3 .last .0)
+    (at-word .word-at6 .ensures) (at-greater .before .greater5 .ensures) (at-greater .greater6 .ensures) (at-put .put-used3 .ensures)
 
 same-length-11 : tie.Need-same-length-11
 same-length-11 c = search needs
@@ -408,7 +408,7 @@ call-image-spec =
     word-at-requires-2
     greater-requires
     greater-requires-2
-    put-account-requires
+    put-used-requires
     enum-known-message-2
     word-at-requires-3
     read-account-requires-2
@@ -418,7 +418,7 @@ call-image-spec =
     word-at-requires-4
     greater-requires-3
     greater-requires-4
-    put-account-requires-2
+    put-used-requires-2
     enum-known-message-3
     word-at-requires-5
     read-account-requires-3
@@ -428,7 +428,7 @@ call-image-spec =
     word-at-requires-6
     greater-requires-5
     greater-requires-6
-    put-account-requires-3
+    put-used-requires-3
     same-length
     same-length-2
     returns-3
