@@ -22,7 +22,7 @@ use Rattle.account.specs.InOrder.{inOrderBy}
 use Rattle.account.proofs.Clauses.{clauses}
 use Rattle.layout.proofs.Stores.{sets-append}
 use Rattle.image.specs.Words.{placeWords, wordsOfSlot, wordsOfSlots, headWords, rowWords, accountWords, headOf, storedIn, storedTo}
-use Rattle.image.specs.Reading.{slotsFrom, areSlots, isAccount, fieldsFrom, accountFrom}
+use Rattle.image.specs.Reading.{slotsFrom, areSlots, fieldsFrom, accountFrom}
 use Rattle.image.specs.Images.{UsedSuffice}
 use Rattle.image.proofs.Rows.{length-slots}
 use Rattle.image.proofs.Accounts.{rows-stored}

@@ -141,7 +141,7 @@ module _ (R : Rule State Event ℕ) (few : R .progressLimit ≤ places) where
     unfolding accountFrom
     read-so = rw (ordered .0) refl
 
-    pub roomy : accountWords ≤ length (drop from words)
+    roomy : accountWords ≤ length (drop from words)
     roomy = omega (arith, length-drop from words, ordered-room)
 
     module _ (w : AreWords words) where

@@ -1,9 +1,9 @@
 -- The loop's invariant: what is known so far, and whether the rest is 0, is whether all of them are.
 -- Assumes nothing.
-use Prim.Native.Nat.{suc, _+_, _-_, _≤_}
+use Prim.Native.Nat.{_+_, _-_, _≤_}
 use native.Mathlib.Nat.{add-zero, sub-zero}
 use native.Mathlib.Omega.{arith}
-use mathlib.Core.Path.{_≡_, refl, sym, _∙_}
+use mathlib.Core.Path.{_≡_, refl}
 use mathlib.Core.Bool.{_&&_, and-true}
 use borrow.Author.Needs.{needs}
 use lib.ListN.{length, take, drop}
