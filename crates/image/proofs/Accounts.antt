@@ -1,19 +1,21 @@
 -- An account in words: where each field stands behind the account's beginning, and its words stored one after the other.
 -- Assumes nothing.
-use Prim.Native.Nat.{ℕ, _+_, _*_}
-use native.Mathlib.Nat.{add-zero, add-assoc}
-use mathlib.Core.Path.{_≡_, refl, ap, _∙_}
-use mathlib.Core.Bool.{Bool, cond, _&&_}
+use Prim.Native.Nat.{ℕ, _+_, _*_, _≤_, min}
+use native.Mathlib.Nat.{add-zero, add-assoc, min-eq-left}
+use native.Mathlib.Omega.{arith}
+use mathlib.Core.Path.{_≡_, refl, ap, sym, _∙_}
+use mathlib.Core.Bool.{Bool, true, false, cond, _&&_}
 use mathlib.Core.List.{List, _++_}
-use lib.Dec.{eqb}
-use lib.ListN.{length, getD, drop, length-append}
-use lib.Seq.{sets, getD-drop, drop-drop}
+use borrow.Author.Tests.{leb-true, leb-false, le-leb}
+use lib.Dec.{eqb, leb}
+use lib.ListN.{length, getD, take, drop, length-append}
+use lib.Seq.{sets, getD-drop, drop-drop, take-all}
 use Rattle.layout.proofs.Stores.{sets-more}
 use Rattle.events.specs.declared.Life.{Life}
 use Rattle.filing.specs.declared.Slot.{Slot}
 use Rattle.filing.specs.Slots.{places}
 use Rattle.account.specs.declared.Account.{Account}
-use Rattle.image.specs.Words.{lifeWord, placeWords, wordsOfSlots, headWords, rowWords, headOf, wordsOf}
+use Rattle.image.specs.Words.{lifeWord, placeWords, wordsOfSlots, headWords, rowWords, accountWords, headOf, wordsOf, storedIn, storedTo}
 use Rattle.image.specs.Reading.{lifeFrom, isLife, slotsFrom, areSlots, tooMany, isAccount, fieldsFrom}
 use Rattle.image.proofs.Rows.{length-slots}
 
@@ -53,14 +55,41 @@ module _ (words : List ℕ) (from : ℕ) where
       let whole : valid ≡ isAccount (drop from words) = rw (h .1, p .1, b, l, e, add-assoc, is-account-at) refl in
       rw (fields-at, ← whole, n, m, l, p .0, h .0, e, add-assoc) refl
 
--- the words before the places, then both rows, one after the other
-pub account-stored : (a : Account) (l l₁ l₂ l₃ : List ℕ) (from at : ℕ) → length (a .progress) ≡ places → at ≡ from + headWords + rowWords
-    → l₁ ≡ sets l from (headOf a) → l₂ ≡ sets l₁ (from + headWords) (wordsOfSlots (a .progress)) → l₃ ≡ sets l₂ at (wordsOfSlots (a .held))
-    → l₃ ≡ sets l from (wordsOf a)
-unfolding wordsOf
-account-stored a l l₁ l₂ l₃ from at h p e₁ e₂ e₃ =
-    let row : length (wordsOfSlots (a .progress)) ≡ rowWords = length-slots (a .progress) ∙ ap (λ (n : ℕ). n * placeWords) h in
-    let front : length (headOf a ++ wordsOfSlots (a .progress)) ≡ headWords + rowWords = length-append (headOf a) (wordsOfSlots (a .progress)) ∙ ap (_+_ headWords) row in
-    sets-more (headOf a ++ wordsOfSlots (a .progress)) (wordsOfSlots (a .held)) l l₂ l₃ from (headWords + rowWords) front
-    (sets-more (headOf a) (wordsOfSlots (a .progress)) l l₁ l₂ from headWords refl e₁ e₂)
-    (rw (p, add-assoc) at e₃)
+-- no more places than there are
+take-min : (n : ℕ) (xs : List Slot) → take (min n (length xs)) xs ≡ take n xs
+take-min n xs = go (leb n (length xs)) refl
+  where
+    go : (b : Bool) → leb n (length xs) ≡ b → take (min n (length xs)) xs ≡ take n xs
+    go true e = ap (λ (k : ℕ). take k xs) (min-eq-left (leb-true n (length xs) e))
+    go false e =
+        let all : length xs ≤ n = omega (arith, leb-false n (length xs) e) in
+        take-all (min n (length xs)) xs (omega arith) ∙ sym (take-all n xs all)
+
+-- the words before the places, then so many of each row, one after the other
+pub account-stored : (a : Account) (n m k j : ℕ) (l l₁ l₂ l₃ : List ℕ) (from : ℕ) → length (a .progress) ≡ places → length (a .held) ≡ places
+    → from + accountWords ≤ length l → k ≡ min n places → j ≡ min m places
+    → l₁ ≡ sets l from (headOf a) → l₂ ≡ sets l₁ (from + headWords) (wordsOfSlots (take k (a .progress)))
+    → l₃ ≡ sets l₂ (from + headWords + rowWords) (wordsOfSlots (take j (a .held)))
+    → l₃ ≡ storedTo l from a n m
+unfolding storedTo
+account-stored a n m k j l l₁ l₂ l₃ from p q room few fewHeld e₁ e₂ e₃ =
+    let first : take k (a .progress) ≡ take n (a .progress) = rw few (rw p at (take-min n (a .progress))) in
+    let second : take j (a .held) ≡ take m (a .held) = rw fewHeld (rw q at (take-min m (a .held))) in
+    rw (le-leb (from + accountWords) (length l) room, ← first, ← second, ← e₁, ← e₂) e₃
+
+-- all of each row is all of the account
+module _ (a : Account) (l : List ℕ) (from : ℕ) (p : length (a .progress) ≡ places) where
+  pub rows-stored : sets (sets (sets l from (headOf a)) (from + headWords) (wordsOfSlots (a .progress))) (from + headWords + rowWords) (wordsOfSlots (a .held)) ≡ sets l from (wordsOf a)
+  unfolding wordsOf
+  rows-stored =
+      let head = sets l from (headOf a) in
+      let progress = sets head (from + headWords) (wordsOfSlots (a .progress)) in
+      let row : length (wordsOfSlots (a .progress)) ≡ rowWords = length-slots (a .progress) ∙ ap (λ (n : ℕ). n * placeWords) p in
+      let front : length (headOf a ++ wordsOfSlots (a .progress)) ≡ headWords + rowWords = length-append (headOf a) (wordsOfSlots (a .progress)) ∙ ap (_+_ headWords) row in
+      sets-more (headOf a ++ wordsOfSlots (a .progress)) (wordsOfSlots (a .held)) l progress _ from (headWords + rowWords) front
+      (sets-more (headOf a) (wordsOfSlots (a .progress)) l head progress from headWords refl refl refl)
+      (rw add-assoc refl)
+
+  pub all-stored : length (a .held) ≡ places → storedTo l from a places places ≡ storedIn l from a
+  unfolding storedTo storedIn
+  all-stored q = rw (take-all places (a .progress) (omega arith), take-all places (a .held) (omega arith), rows-stored) refl

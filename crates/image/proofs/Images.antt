@@ -15,6 +15,7 @@ use Rattle.image.specs.Images.{Kept, fresh, Stores, ImagesHold}
 use Rattle.image.proofs.ReadBack.{length-of-rows, account-back, reads-back, one-account}
 use Rattle.image.proofs.OwnWords.{own-words}
 use Rattle.image.proofs.WrittenBack.{written-back}
+use Rattle.image.proofs.Used.{used-suffice}
 
 kept-fresh : Kept fresh
 kept-fresh = record { progress = refl; held = refl; progressing = lit≤ tt; holding = lit≤ tt }
@@ -52,4 +53,4 @@ stores words from a p h =
     }
 
 pub images-hold : ImagesHold
-images-hold = record { read = reads-back; one = one-account; own = own-words; written = written-back; zeroed = record { image = fresh-image; reads = zeros-read }; stores = stores }
+images-hold = record { read = reads-back; one = one-account; own = own-words; written = written-back; zeroed = record { image = fresh-image; reads = zeros-read }; stores = stores; used = used-suffice }

@@ -5,6 +5,7 @@ pub mod Accounts
 pub mod ReadBack
 pub mod WrittenBack
 pub mod OwnWords
+pub mod Used
 pub mod Images
 pub mod Vectors
 pub mod Plain

@@ -45,7 +45,7 @@ slot-written (t ∷ g ∷ e ∷ a ∷ d ∷ rest) h b =
 
 -- ---- a row
 
-slots-written : (n : ℕ) (words : List ℕ) → n * placeWords ≤ length words → areSlots n words ≡ true → take (n * placeWords) words ≡ wordsOfSlots (slotsFrom n words)
+pub slots-written : (n : ℕ) (words : List ℕ) → n * placeWords ≤ length words → areSlots n words ≡ true → take (n * placeWords) words ≡ wordsOfSlots (slotsFrom n words)
 unfolding areSlots slotsFrom wordsOfSlots
 slots-written zero words h b = refl
 slots-written (suc n) words h b =
@@ -128,7 +128,7 @@ module _ (R : Rule State Event ℕ) (few : R .progressLimit ≤ places) where
   only-if false valid s progress held progressing holding h = absurd (omega (arith, ordered-few noAccount h))
 
   module _ (words : List ℕ) (from : ℕ) (h : inOrderBy R (accountFrom words from) ≡ true) where
-    ordered : (leb (from + accountWords) (length words) ≡ true) × (isAccount (drop from words) ≡ true)
+    pub ordered : (leb (from + accountWords) (length words) ≡ true) × (isAccount (drop from words) ≡ true)
     unfolding accountFrom fieldsFrom
     ordered =
         let a = fieldsFrom (drop from words) in
@@ -137,7 +137,7 @@ module _ (R : Rule State Event ℕ) (few : R .progressLimit ≤ places) where
     pub ordered-room : from + accountWords ≤ length words
     ordered-room = leb-true (from + accountWords) (length words) (ordered .0)
 
-    read-so : accountFrom words from ≡ fieldsFrom (drop from words)
+    pub read-so : accountFrom words from ≡ fieldsFrom (drop from words)
     unfolding accountFrom
     read-so = rw (ordered .0) refl
 

@@ -14,7 +14,7 @@ use Rattle.filing.specs.declared.Decision.the-variants.{Undecided}
 use Rattle.filing.specs.declared.Slot.{Slot}
 use Rattle.account.specs.declared.Account.{Account}
 use Rattle.account.specs.InOrder.{inOrderBy}
-use Rattle.image.specs.Words.{wordsOf, storedIn}
+use Rattle.image.specs.Words.{wordsOf, storedIn, storedTo}
 use Rattle.image.specs.Reading.{accountFrom}
 
 -- each of them is a word
@@ -67,6 +67,13 @@ pub record Stores (words : List ℕ) (from : ℕ) (a : Account) : Type 0 where
   pub room : from + 84 ≤ length words → storedIn words from a ≡ take from words ++ wordsOf a ++ drop (from + 84) words
   pub none : length words < from + 84 → storedIn words from a ≡ words
 
+-- where the words read as an account in order, another one in order is stored whole if so many places of it are stored as either of the two uses: behind them both have blanks
+abbrev pub UsedSuffice : Rule State Event ℕ → Type 0
+UsedSuffice R = (words : List ℕ) (from n m : ℕ) (a : Account)
+    → inOrderBy R (accountFrom words from) ≡ true → inOrderBy R a ≡ true → length (a .progress) ≡ 8 → length (a .held) ≡ 8
+    → accountFrom words from .progressing ≤ n → a .progressing ≤ n → accountFrom words from .holding ≤ m → a .holding ≤ m
+    → storedTo words from a n m ≡ storedIn words from a
+
 pub record ImagesHold : Type 0 where
   pub read : (a : Account) → Kept a → ReadsBack a
   pub one : OneAccount
@@ -74,3 +81,4 @@ pub record ImagesHold : Type 0 where
   pub written : (R : Rule State Event ℕ) → R .progressLimit ≤ 8 → (words : List ℕ) (from : ℕ) → AreWords words → WrittenBack R words from
   pub zeroed : Zeroed
   pub stores : (words : List ℕ) (from : ℕ) (a : Account) → length (a .progress) ≡ 8 → length (a .held) ≡ 8 → Stores words from a
+  pub used : (R : Rule State Event ℕ) → R .progressLimit ≤ 8 → UsedSuffice R

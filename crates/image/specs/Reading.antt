@@ -5,6 +5,7 @@ use mathlib.Core.Bool.{Bool, true, cond, _&&_}
 use mathlib.Core.List.{List, [], _∷_}
 use lib.Dec.{eqb, leb}
 use lib.ListN.{length, getD, drop, replicate}
+use Rattle.rule.specs.Lists.{every}
 use Rattle.events.specs.declared.Event.{Event}
 use Rattle.events.specs.declared.Life.{Life}
 use Rattle.events.specs.declared.Life.the-variants.{New, Opened, Closed}
@@ -61,6 +62,10 @@ slotsFrom (suc n) words = slotFrom words ∷ slotsFrom n (drop placeWords words)
 unfoldable pub areSlots : ℕ → List ℕ → Bool
 areSlots zero words = true
 areSlots (suc n) words = isSlot words && areSlots n (drop placeWords words)
+
+-- words that are all 0, which read as blank places
+abbrev pub areZero : List ℕ → Bool
+areZero words = every (λ (word : ℕ). eqb word 0) words
 
 -- ---- the account that the words begin with
 

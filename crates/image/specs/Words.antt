@@ -4,7 +4,7 @@ use Prim.Native.Nat.{ℕ, _+_, _-_, _*_, min}
 use mathlib.Core.Bool.{cond}
 use mathlib.Core.List.{List, [], _∷_, _++_}
 use lib.Dec.{leb}
-use lib.ListN.{length}
+use lib.ListN.{length, take}
 use lib.Seq.{sets}
 use Rattle.events.specs.declared.Event.{Event}
 use Rattle.events.specs.declared.Life.{Life}
@@ -90,3 +90,10 @@ wordsOf a = headOf a ++ wordsOfSlots (a .progress) ++ wordsOfSlots (a .held)
 -- the words with the image of an account stored from `from` on; where there is no room for all of it they stay as they are
 unfoldable pub storedIn : (words : List ℕ) (from : ℕ) → Account → List ℕ
 storedIn words from a = cond (leb (from + accountWords) (length words)) (sets words from (wordsOf a)) words
+
+-- the same, but so many places alone of those in progress and of those held: the words of the others stay as they are
+unfoldable pub storedTo : (words : List ℕ) (from : ℕ) → Account → (progress held : ℕ) → List ℕ
+storedTo words from a n m =
+    cond (leb (from + accountWords) (length words))
+    (sets (sets (sets words from (headOf a)) (from + headWords) (wordsOfSlots (take n (a .progress)))) (from + headWords + rowWords) (wordsOfSlots (take m (a .held))))
+    words

@@ -7,13 +7,15 @@ use events::State;
 pub use fields::life_word;
 use filing::Slot;
 ghost use mathlib.Core.Path.{_≡_};
-ghost use mathlib.Core.Bool.{cond};
-ghost use Prim.Native.Nat.{_+_, _≤_};
+ghost use mathlib.Core.Bool.{true, cond};
+ghost use mathlib.Core.List.{[], _∷_};
+ghost use Prim.Native.Nat.{_+_, _-_, _*_, _≤_, min};
 ghost use lib.Dec.{leb};
-ghost use lib.ListN.{length, drop};
+ghost use lib.ListN.{length, take, drop};
 ghost use lib.Seq.{sets};
-ghost use Rattle.image.specs.Words.{headWords, accountWords, headOf, wordsOf, storedIn};
-ghost use Rattle.image.specs.Reading.{tooMany, fieldsFrom, accountFrom};
+ghost use Rattle.filing.specs.Slots.{places};
+ghost use Rattle.image.specs.Words.{lifeWord, countWord, placeWords, headWords, rowWords, accountWords, storedIn, storedTo};
+ghost use Rattle.image.specs.Reading.{areZero, tooMany, accountFrom};
 
 // The words of what is filed with an event.
 pub const FILED_WORDS: usize = 1;
@@ -25,7 +27,10 @@ pub const PLACE_WORDS: usize = FILED_WORDS + 4;
 pub const HEAD_WORDS: usize = 4;
 
 // The words of an account: behind the head its places in progress, and then those held.
-pub const ACCOUNT_WORDS: usize = HEAD_WORDS + Account::PLACES * PLACE_WORDS * 2;
+pub const ACCOUNT_WORDS: usize = HEAD_WORDS + ROW_WORDS * 2;
+
+// The words of a row of places.
+const ROW_WORDS: usize = Account::PLACES * PLACE_WORDS;
 
 // One event more in progress than there are places: an account with that count is not in order.
 const TOO_MANY: usize = Account::PLACES + 1;
@@ -39,22 +44,82 @@ const NO_ACCOUNT: Account = Account {
     holding: 0,
 };
 
-// The account whose image begins at `from`.
+// The account whose image begins at `from`. A row is read as far as it has to be: where all words behind are 0, its places are blank already.
+// The account has one way out and the loops stand in this body: handing a row to a helper costs a copy of it.
 pub fn read_account(image: &[u32], from: usize) -> Account
     ensures { λ r. ⌜ r ≡ accountFrom (now (image .entry)) from ⌝ }
 {
-    if !has_room(image.len(), from) {
-        return NO_ACCOUNT;
+    let mut account = NO_ACCOUNT;
+    if has_room(image.len(), from) {
+        let word = image[from];
+        let life = fields::life_of(word);
+        let mut valid = fields::life_word(life) == word;
+        let mut at = from + HEAD_WORDS;
+        let count = fields::count_of(image[from + 2]);
+        let in_progress = reach(image, at, at_most_all(count));
+        let mut i = 0;
+        while i < in_progress {
+            let place = places::read_place(image, at);
+            valid = valid & place.valid;
+            let slot = place.slot;
+            account.progress[i] = slot;
+            at += PLACE_WORDS;
+            i += 1;
+        }
+        at = from + HEAD_WORDS + ROW_WORDS;
+        let in_holding = reach(image, at, 0);
+        i = 0;
+        while i < in_holding {
+            let place = places::read_place(image, at);
+            valid = valid & place.valid;
+            let slot = place.slot;
+            account.held[i] = slot;
+            at += PLACE_WORDS;
+            i += 1;
+        }
+        let state = State {
+            life,
+            balance: image[from + 1],
+        };
+        account.state = state;
+        account.progressing = count_if(valid, count);
+        account.holding = fields::count_of(image[from + 3]);
     }
-    read_whole(image, from)
+    account
 }
 
 // Stores the image of an account from `from` on; where there is no room for all of it, nothing.
 pub fn put_account(image: &mut [u32], from: usize, account: Account)
     ensures { λ _. ⌜ now (image .exit) ≡ storedIn (now (image .entry)) from account ⌝ }
 {
+    put_used(image, from, account, Account::PLACES, Account::PLACES);
+}
+
+// The same, but so many places alone of those in progress and of those held: enough where the account that stands there has only blanks behind them, and this one too.
+pub fn put_used(image: &mut [u32], from: usize, account: Account, progress: usize, held: usize)
+    ensures { λ _. ⌜ now (image .exit) ≡ storedTo (now (image .entry)) from account progress held ⌝ }
+{
     if has_room(image.len(), from) {
-        put_whole(image, from, account);
+        let state = account.state;
+        put_head(image, from, state, account.progressing, account.holding);
+        let in_progress = at_most_all(progress);
+        let mut at = from + HEAD_WORDS;
+        let mut i = 0;
+        while i < in_progress {
+            let slot = account.progress[i];
+            places::put_place(image, at, slot);
+            at += PLACE_WORDS;
+            i += 1;
+        }
+        let in_holding = at_most_all(held);
+        at = from + HEAD_WORDS + ROW_WORDS;
+        i = 0;
+        while i < in_holding {
+            let slot = account.held[i];
+            places::put_place(image, at, slot);
+            at += PLACE_WORDS;
+            i += 1;
+        }
     }
 }
 
@@ -71,91 +136,61 @@ fn has_room(words: usize, from: usize) -> bool
     true
 }
 
-// The account of that many words. Every word is looked at once, and the loops stand in this body: handing a row to a helper costs a copy of it.
-fn read_whole(image: &[u32], from: usize) -> Account
-    requires { ⌜ from + accountWords ≤ length (now image) ⌝ }
-    ensures { λ r. ⌜ r ≡ fieldsFrom (drop from (now (image .entry))) ⌝ }
+// How many places of the row at `at` have to be read: so many, where every word behind them is 0, else all.
+fn reach(image: &[u32], at: usize, used: usize) -> usize
+    requires { ⌜ (used ≤ places) × (at + rowWords ≤ length (now image)) ⌝ }
+    ensures { λ r. ⌜ (r ≤ places) × (areZero (take ((places - r) * placeWords) (drop (at + r * placeWords) (now (image .entry)))) ≡ true) ⌝ }
 {
-    let word = image[from];
-    let life = fields::life_of(word);
-    let mut valid = fields::life_word(life) == word;
-    let mut progress = [Slot::BLANK; Account::PLACES];
-    let mut held = [Slot::BLANK; Account::PLACES];
-    let mut at = from + HEAD_WORDS;
-    let mut i = 0;
-    while i < Account::PLACES {
-        let place = places::read_place(image, at);
-        valid = valid & place.valid;
-        let slot = place.slot;
-        progress[i] = slot;
-        at += PLACE_WORDS;
-        i += 1;
+    if are_zero(
+        image,
+        at + used * PLACE_WORDS,
+        (Account::PLACES - used) * PLACE_WORDS,
+    ) {
+        return used;
     }
-    i = 0;
-    while i < Account::PLACES {
-        let place = places::read_place(image, at);
-        valid = valid & place.valid;
-        let slot = place.slot;
-        held[i] = slot;
-        at += PLACE_WORDS;
-        i += 1;
-    }
-    let progressing = count_if(valid, image[from + 2]);
-    Account {
-        state: State {
-            life,
-            balance: image[from + 1],
-        },
-        progress,
-        progressing,
-        held,
-        holding: fields::count_of(image[from + 3]),
-    }
+    Account::PLACES
 }
 
-// Stores the words of an account, the places of each row one after the other.
-fn put_whole(image: &mut [u32], from: usize, account: Account)
-    requires { ⌜ from + accountWords ≤ length (now image) ⌝ }
-    ensures { λ _. ⌜ now (image .exit) ≡ sets (now (image .entry)) from (wordsOf account) ⌝ }
+// Whether so many words from `from` on are all 0: every one is looked at, so that the compiler takes several in one step.
+fn are_zero(image: &[u32], from: usize, count: usize) -> bool
+    requires { ⌜ from + count ≤ length (now image) ⌝ }
+    ensures { λ r. ⌜ r ≡ areZero (take count (drop from (now (image .entry)))) ⌝ }
 {
-    put_head(image, from, account);
-    let mut at = from + HEAD_WORDS;
+    let mut zero = true;
     let mut i = 0;
-    while i < Account::PLACES {
-        let slot = account.progress[i];
-        places::put_place(image, at, slot);
-        at += PLACE_WORDS;
+    while i < count {
+        zero = zero & (image[from + i] == 0);
         i += 1;
     }
-    i = 0;
-    while i < Account::PLACES {
-        let slot = account.held[i];
-        places::put_place(image, at, slot);
-        at += PLACE_WORDS;
-        i += 1;
+    zero
+}
+
+// A count of places, of which there are no more than all.
+fn at_most_all(count: usize) -> usize
+    ensures { λ r. ⌜ r ≡ min count places ⌝ }
+{
+    if count < Account::PLACES {
+        count
+    } else {
+        Account::PLACES
     }
 }
 
 // Stores the words before the places.
-fn put_head(image: &mut [u32], at: usize, account: Account)
+fn put_head(image: &mut [u32], at: usize, state: State, progressing: usize, holding: usize)
     requires { ⌜ at + headWords ≤ length (now image) ⌝ }
-    ensures { λ _. ⌜ now (image .exit) ≡ sets (now (image .entry)) at (headOf account) ⌝ }
+    ensures { λ _. ⌜ now (image .exit) ≡ sets (now (image .entry)) at (lifeWord (state .life) ∷ state .balance ∷ countWord progressing ∷ countWord holding ∷ []) ⌝ }
 {
-    let state = account.state;
     let life = state.life;
     image[at] = fields::life_word(life);
     image[at + 1] = state.balance;
-    image[at + 2] = fields::count_word(account.progressing);
-    image[at + 3] = fields::count_word(account.holding);
+    image[at + 2] = fields::count_word(progressing);
+    image[at + 3] = fields::count_word(holding);
 }
 
 // How many are in progress: the count, or too many where a word is none of its field's.
-fn count_if(valid: bool, count: u32) -> usize
+fn count_if(valid: bool, count: usize) -> usize
     ensures { λ r. ⌜ r ≡ cond valid count tooMany ⌝ }
 {
-    if valid {
-        fields::count_of(count)
-    } else {
-        TOO_MANY
-    }
+    if valid { count } else { TOO_MANY }
 }

@@ -3,6 +3,7 @@
 use Prim.Native.Nat.{ℕ, _≤_, _<_}
 use native.Mathlib.Omega.{arith}
 use mathlib.Core.Path.{_≡_, refl, ap, sym, _∙_}
+use mathlib.Core.Bool.{true, false, true≢false, false≢true}
 use mathlib.Core.List.{List}
 use borrow.Author.Tests.{lt-ltb, le-ltb}
 use lib.ListN.{length, getD}
@@ -19,30 +20,27 @@ use Rattle.account.specs.declared.Answer.{Answer}
 use Rattle.account.specs.declared.Answer.the-variants as Answer′
 use Rattle.account.specs.declared.Stepped.{Stepped}
 use Rattle.account.specs.Steps.{stepBy}
-use Rattle.layout.specs.declared.Writing.{Writing}
-use Rattle.layout.specs.declared.Writing.the-variants as Writing′
 use Rattle.layout.specs.Fields.{lastAccount}
 use Rattle.message.specs.declared.Message.{Message}
 use Rattle.message.specs.declared.Reading.{Reading}
 use Rattle.message.specs.declared.Reading.the-variants as Reading′
 use Rattle.message.specs.Bytes.{headingOf}
 use Rattle.message.specs.Answers.{readOf}
-use Rattle.entry.specs.Answers.{longestCall, writeOf}
+use Rattle.entry.specs.Answers.{longestCall}
 use Rattle.image.specs.Words.{storedIn}
 use Rattle.image.specs.Reading.{accountFrom}
 use Rattle.register.specs.declared.Reply.{Reply}
 use Rattle.register.specs.declared.Reply.the-variants.{Refused, Taken}
 use Rattle.register.specs.Register.{accountsOfRegister, nowhere, ruleMessage, sentAs, sentBy}
 use Rattle.register.specs.Call.{Result, refusedWith, wroteOf, afterMessage, calledBy}
-use Rattle.register.specs.Helpers.{readingNumber, stepNumber, Filing, filedOf, Fitting}
+use Rattle.register.specs.Helpers.{readingNumber, Filing, filedOf, Fitting}
 use Rattle.register.proofs.ReadAs.{read-as, account-read}
 use Rattle.register.proofs.Suits.{Suits}
 use Rattle.register.proofs.Sending.{step-bytes}
 use Rattle.register.proofs.Votes.{vote-filed}
-use Rattle.register.proofs.Writes.{bytes-written, bytes-left}
 use Rattle.live.specs.Registers.{wordAt, registerOf}
 use Rattle.live.specs.Live.{Live, imageAfter, liveBy}
-use Rattle.live.specs.Helpers.{finishedBy, finishedOf}
+use Rattle.live.specs.Helpers.{finishedBy, finishedOf, isTaken}
 use Rattle.live.proofs.Standing.{length-accountsFrom, account-of-image}
 
 -- a refusal
@@ -69,19 +67,22 @@ Gives live reply image buffer = (reply ≡ live .reply) × (image ≡ live .imag
 pub gives : {x y : Live} → x ≡ y → (reply : Reply) (image buffer : List ℕ) → Gives y reply image buffer → Gives x reply image buffer
 gives e reply image buffer g = rw e g
 
--- what is made of an account's answer
-module _ (image buffer : List ℕ) (i consumed : ℕ) (stepped : Stepped) where
-  pub answer-refused : (n number : ℕ) → stepped .answer ≡ Answer′.Refused n → number ≡ stepNumber (stepped .answer)
-      → Gives (finishedOf image buffer i consumed stepped) (Refused number) image buffer
-  answer-refused n number f p = let same : number ≡ n = p ∙ ap stepNumber f in rw (f, same) (refl, refl, refl)
+-- what is made of an account's answer: it is filed, and stored where the reply says that the message was taken
+module _ (image buffer : List ℕ) (i consumed : ℕ) (next : Account) (entries : Entries) where
+  abbrev made : Answer → Live
+  made answer = finishedBy image buffer i consumed answer next entries
 
-  pub answer-taken : Fitting (stepped .entries) i buffer → (w : Writing) (n : ℕ) (last : List ℕ) (from : ℕ) (stored : List ℕ) → stepped .answer ≡ Answer′.Taken
-      → w ≡ writeOf (stepped .entries) i buffer .answer → w ≡ Writing′.Written n → last ≡ writeOf (stepped .entries) i buffer .buffer
-      → from ≡ wordAt i → stored ≡ storedIn image from (stepped .account)
-      → Gives (finishedOf image buffer i consumed stepped) (Taken consumed n) stored last
-  answer-taken fits w n last from stored f p z b h k =
-      let t = bytes-written (stepped .entries) i buffer fits w n p z in
-      (rw (f, t) refl, k ∙ rw (f, h) refl, bytes-left (stepped .entries) i buffer fits last b ∙ rw f refl)
+  abbrev filed : Answer → Filing
+  filed answer = filedOf answer entries i consumed buffer
+
+  pub filed-refused : (answer : Answer) (reply : Reply) (last : List ℕ) → reply ≡ filed answer .reply → last ≡ filed answer .buffer → isTaken reply ≡ false → Gives (made answer) reply image last
+  filed-refused (Answer′.Refused n) reply last r b t = (r, refl, b)
+  filed-refused Answer′.Taken reply last r b t = absurd (true≢false (sym (ap isTaken r) ∙ t))
+
+  pub filed-taken : (answer : Answer) (reply : Reply) (last stored : List ℕ) → reply ≡ filed answer .reply → last ≡ filed answer .buffer → isTaken reply ≡ true
+      → (answer ≡ Answer′.Taken → stored ≡ storedIn image (wordAt i) next) → Gives (made answer) reply stored last
+  filed-taken (Answer′.Refused n) reply last stored r b t k = absurd (false≢true (sym (ap isTaken r) ∙ t))
+  filed-taken Answer′.Taken reply last stored r b t k = (r, k refl, b)
 
 -- of a request its vote alone: what is filed of it is what is filed of its entries
 module _ (image buffer : List ℕ) (i consumed : ℕ) (next : Account) (one all : Entries) where

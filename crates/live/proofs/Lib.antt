@@ -5,6 +5,7 @@ pub mod Plain
 pub mod RegisterImages
 pub mod Stored
 pub mod Keeping
+pub mod Used
 pub mod OwnAlone
 pub mod KeptOn
 pub mod Vectors

@@ -1,6 +1,7 @@
 -- What private functions give: contracts of helpers, which the law does not need.
 -- Assumes nothing.
 use Prim.Native.Nat.{ℕ}
+use mathlib.Core.Bool.{Bool, true, false}
 use mathlib.Core.List.{List}
 use lib.ListN.{length}
 use Rattle.filing.specs.declared.Entries.{Entries}
@@ -11,6 +12,7 @@ use Rattle.account.specs.declared.Stepped.{Stepped}
 use Rattle.layout.specs.Answers.{laidOver}
 use Rattle.entry.specs.Bytes.{bytesOfEntries, listOf}
 use Rattle.image.specs.Words.{storedIn}
+use Rattle.register.specs.declared.Reply.{Reply}
 use Rattle.register.specs.declared.Reply.the-variants.{Refused, Taken}
 use Rattle.live.specs.Registers.{wordAt}
 use Rattle.live.specs.Live.{Live}
@@ -27,3 +29,8 @@ finishedBy image buffer i consumed Answer′.Taken next entries =
 
 abbrev pub finishedOf : (image buffer : List ℕ) (account consumed : ℕ) → Stepped → Live
 finishedOf image buffer i consumed stepped = finishedBy image buffer i consumed (stepped .answer) (stepped .account) (stepped .entries)
+
+-- whether a reply is that the message was taken
+abbrev pub isTaken : Reply → Bool
+isTaken (Refused n) = false
+isTaken (Taken consumed written) = true

@@ -4,6 +4,7 @@ use events::Life;
 use message::Reading;
 use register::Reply;
 ghost use mathlib.Core.Path.{_≡_};
+ghost use Prim.Native.Nat.{max};
 ghost use Rattle.register.specs.Call.{consumedOf, writtenOf};
 ghost use Rattle.register.specs.Helpers.{readingNumber, stepNumber};
 ghost use Rattle.live.specs.Registers.{wordAt};
@@ -13,6 +14,13 @@ pub(crate) fn word_at(account: u16) -> usize
     ensures { λ r. ⌜ r ≡ wordAt account ⌝ }
 {
     account as usize * image::ACCOUNT_WORDS
+}
+
+// The greater of two counts.
+pub(crate) fn greater(one: usize, other: usize) -> usize
+    ensures { λ r. ⌜ r ≡ max one other ⌝ }
+{
+    if one < other { other } else { one }
 }
 
 // The number of the reader's refusal; 0 where it gave a message.

@@ -1,37 +1,32 @@
--- Whether there is room is what the definition asks.
+-- All places of each row are all of the account.
 -- Assumes nothing.
-use Prim.Native.Nat.{_+_}
-use mathlib.Core.Path.{refl, sym, _∙_}
-use borrow.Author.Tests.{leb-true}
-use lib.ListN.{length}
-use Rattle.image.specs.Words.{accountWords, storedIn}
+use mathlib.Core.Path.{_≡_, _∙_}
 use borrow.Author.Needs.{needs}
+use lib.ListN.{length, length-map}
+use Rattle.filing.specs.Slots.{places}
+use Rattle.image.proofs.Accounts.{all-stored}
 use Rattle.image.proofs.put_account.Statement.{statement}
 use Rattle.image.proofs.put_account.Tie as tie
 
-has-room-requires : tie.Need-has-room-requires
-has-room-requires c κs = search needs
+-- both rows have all their places
+rows : (start : tie.Start) → (length (start .args .account .progress) ≡ places) × (length (start .args .account .held) ≡ places)
+rows start =
+    let good = start .good .1 .1 .0 .1 .1 .1 in
+    (simp length-map at (good .0 .1 .0 .1), simp length-map at (good .1 .1 .0 .1 .0 .1))
 
-put-whole-requires : tie.Need-put-whole-requires
-put-whole-requires c κs =
-    let at-if = c .before in
-    let a = at-if .before .before .before .args in
-    leb-true (a .from + accountWords) (length (a .image .now)) (sym (at-if .before .has-room .ensures) ∙ at-if .if1 .taken)
+put-used-requires : tie.Need-put-used-requires
+put-used-requires c κs = search needs
 
 same-length : tie.Need-same-length
 same-length c = search needs
 
 returns : tie.Need-returns
-unfolding storedIn
 returns c =
     let at-put = c .before .before in
-    let at-if = at-put .before .before in
-    rw (sym (at-if .before .has-room .ensures) ∙ at-if .if1 .taken) (at-put .put-whole .ensures)
-
-returns-2 : tie.Need-returns-2
-unfolding storedIn
-returns-2 c = rw (sym (c .before .has-room .ensures) ∙ c .if1 .left) refl
+    let start = at-put .before .before .before in
+    let a = start .args in
+    let many = rows start in
+    at-put .put-used .ensures ∙ all-stored (a .account) (a .image .now) (a .from) (many .0) (many .1)
 
 pub put-account-spec : {M : Type 1} → statement M
-put-account-spec =
-    tie.close (tie.spec has-room-requires put-whole-requires same-length returns returns-2)
+put-account-spec = tie.close (tie.spec put-used-requires same-length returns)

@@ -1,9 +1,9 @@
 -- The four stores one after the other.
 -- Assumes nothing.
 use native.Mathlib.Omega.{arith}
-use lib.ListN.{getD, length-set}
+use lib.ListN.{length-set}
 use Rattle.layout.proofs.Stores.{sets-four}
-use Rattle.image.specs.Words.{headOf}
+use Rattle.image.specs.Words.{lifeWord, countWord}
 use borrow.Author.Needs.{needs}
 use Rattle.image.proofs.put_head.Statement.{statement}
 use Rattle.image.proofs.put_head.Tie as tie
@@ -56,10 +56,9 @@ same-length c = search needs
 returns : tie.Need-returns
 returns c =
     let at-stores = c .before .before in
-    let a = at-stores .before .before .before .args in
-    let head = headOf (a .account) in
+    let a = at-stores .before .before .args in
     rw (at-stores .life-word .ensures, c .before .count-word .ensures, c .count-word2 .ensures)
-    (sets-four (getD head 0 0) (getD head 1 0) (getD head 2 0) (getD head 3 0) (a .image .now) (a .at))
+    (sets-four (lifeWord (a .state .life)) (a .state .balance) (countWord (a .progressing)) (countWord (a .holding)) (a .image .now) (a .at))
 
 pub put-head-spec : {M : Type 1} → statement M
 put-head-spec =
