@@ -2,6 +2,7 @@
 -- Assumes nothing.
 use mathlib.Core.Path.{refl}
 use Rattle.rule.proofs.Exact.{numbered, choices, exact, decided}
+use Rattle.rule.proofs.Vote.{vote-exactly}
 use Rattle.account.specs.First.{panel}
 use Rattle.account.specs.Places.{accountOf}
 use Rattle.account.proofs.First.{table-holds, outcomes-of-the-table}
@@ -54,6 +55,7 @@ demand2 =
       own = each-own-entry panel;
       weighed = exact panel;
       counted = λ e s progress held. decided panel e s progress held;
+      voted = λ ahead progress s e w. vote-exactly panel e s progress ahead w;
       numbers = numbered panel;
       choices = choices;
       table = table-holds;

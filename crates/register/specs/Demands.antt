@@ -8,7 +8,9 @@ use mathlib.Core.List.{List, [], _++_, map}
 use mathlib.Core.Option.{Option, none, some}
 use lib.ListN.{length, drop, set, replicate}
 use Rattle.rule.specs.Call.{Answer, refused, taken, Called, call}
+use Rattle.rule.specs.Rule.{Weighing}
 use Rattle.rule.specs.Exact.{Numbered, Choices, Exact, Decided}
+use Rattle.rule.specs.Vote.{VoteExactly}
 use Rattle.events.specs.declared.Event.{Event}
 use Rattle.events.specs.declared.Event.the-variants.{Open}
 use Rattle.events.specs.declared.Life.the-variants.{New}
@@ -123,12 +125,14 @@ pub record Demand2 : Type 0 where
   pub own : EachOwnEntry panel
   -- each vote exactly if the guard, looked at in all outcomes by their numbers, says so (4.5);
   pub weighed : (e : Event) (progress : List RuleSlot) (s : State) → Exact panel e progress s
-  -- what is held unweighed, and the count of those that are weighed (4.4 and 4.5);
+  -- what is held unweighed, the count of those that are weighed, and the reason of those that are rejected, which is outcome 0's (4.4, 4.5 and 4.7);
   pub counted : (e : Event) (s : State) (progress held : List RuleSlot) → Decided panel e s progress held
+  -- and all of it in one: verdict, count and reason of a vote by the outcomes' numbers alone;
+  pub voted : (ahead progress : List RuleSlot) (s : State) (e : Event) (w : Weighing) → VoteExactly panel ahead progress s e w
   -- what the numbers of outcomes say (4.2 and 4.3), and that each choice among the undecided events has one;
   pub numbers : (progress : List RuleSlot) (s : State) → Numbered panel progress s
   pub choices : (u : ℕ) → Choices u
-  -- the table of guards and effects row by row, and that the outcomes of an account in order are the table's (3)
+  -- the table of guards, reasons and effects row by row, and that the outcomes of an account in order are the table's (3)
   pub table : TableHolds
   pub outcomes : OutcomesOfTheTable
   -- reading and writing of messages undo each other (8.3)
