@@ -10,7 +10,7 @@ use events::State;
 use filing::Slot;
 
 // What judging finds. The place of a transaction in progress, or held, is past the last place where there is none; its slot is the one found, the blank where none is.
-#[derive(Drop)]
+#[derive(Clone, Copy, Drop)]
 pub(crate) struct Judged {
     pub(crate) outcomes: Outcomes,
     pub(crate) slot: Slot,

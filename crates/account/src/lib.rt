@@ -1,4 +1,5 @@
 // An account: its places, and what a call of it gives (docs/REGISTER.md, 2).
+#![tactic(auto)]
 
 mod judging;
 mod outcomes;
@@ -10,7 +11,7 @@ use events::State;
 use filing::{Entries, Slot};
 
 // An account: the first `progressing` places of `progress` and the first `holding` of `held` are used, in arrival order; the others are blank.
-#[derive(Drop)]
+#[derive(Clone, Copy, Drop)]
 pub struct Account {
     pub state: State,
     pub progress: [Slot; Account::PLACES],
@@ -20,14 +21,14 @@ pub struct Account {
 }
 
 // What a step answers: the number of its refusal, or that it was taken.
-#[derive(Drop)]
+#[derive(Clone, Copy, Drop)]
 pub enum Answer {
     Refused(u8),
     Taken,
 }
 
 // What a step gives: the account that follows, the entries written, and the answer.
-#[derive(Drop)]
+#[derive(Clone, Copy, Drop)]
 pub struct Stepped {
     pub account: Account,
     pub entries: Entries,
@@ -35,7 +36,7 @@ pub struct Stepped {
 }
 
 // What the outcome question answers: the number of its refusal, or the state and the number of undecided events applied in it (11.2).
-#[derive(Drop)]
+#[derive(Clone, Copy, Drop)]
 pub enum Outlook {
     Refused(u8),
     State(State, u32),

@@ -17,7 +17,7 @@ use filing::{Decision, Slot, Verdict, Weighing};
 
 // The outcomes of the events in progress: their range and their number, the state in outcome 0, which a rejection's reason is of, and whether each event finds its guard true however the
 // older ones end; where one does not, the range says nothing.
-#[derive(Drop)]
+#[derive(Clone, Copy, Drop)]
 pub(crate) struct Outcomes {
     pub(crate) range: Range,
     pub(crate) number: u32,

@@ -8,7 +8,7 @@ use events::State;
 use filing::Slot;
 
 // A state on the way through the events in progress, and what is left of the outcome's number.
-#[derive(Drop)]
+#[derive(Clone, Copy, Drop)]
 struct Reached {
     state: State,
     left: u32,

@@ -7,7 +7,7 @@ use crate::judging::Judged;
 use crate::{Account, Answer};
 
 // What is asked of an account.
-#[derive(Drop)]
+#[derive(Clone, Copy, Drop)]
 pub(crate) enum Asked {
     Request,
     Commit,

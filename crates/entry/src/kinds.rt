@@ -51,7 +51,7 @@ const DROPPED: Shape = Shape {
 };
 
 // What follows the heading of an entry.
-#[derive(Drop)]
+#[derive(Clone, Copy, Drop)]
 pub(crate) struct Then {
     pub(crate) event: u32,
     pub(crate) amount: u32,

@@ -1,4 +1,6 @@
 // The entries of a call in bytes, and the reader of one entry.
+#![tactic(auto)]
+
 mod kinds;
 mod reader;
 mod writer;
@@ -11,7 +13,7 @@ pub use writer::{write_entries, write_entry};
 pub const LONGEST_CALL: usize = 323;
 
 // What the reader answers: the entry, the kind that it was read in, its account and its length, or that the bytes do not begin with an entry.
-#[derive(Drop)]
+#[derive(Clone, Copy, Drop)]
 pub enum EntryReading {
     Found(Entry, u8, u16, usize),
     Nothing,

@@ -7,7 +7,7 @@ use crate::{Event, Life, State};
 
 // What an event asks: that its amount is possible at all, a life, and a balance that is at least the bound (upward), or at most the bound.
 // It goes one way only, so that of many balances the lowest or the highest tells of all of them, and the other one whether there is any.
-#[derive(Drop)]
+#[derive(Clone, Copy, Drop)]
 pub(crate) struct Condition {
     possible: bool,
     life: Life,

@@ -1,4 +1,6 @@
 // The events of an account: what each asks of a state and does to it, its kind and amount, and what weighing knows of outcomes. An event is taken apart in this crate alone.
+#![tactic(auto)]
+
 mod condition;
 mod glance;
 mod reasons;
@@ -12,7 +14,7 @@ ghost use Rattle.events.specs.Range.{stored_effect};
 use condition::Condition;
 
 // An event, with its amount of adjustment steps.
-#[derive(Drop)]
+#[derive(Clone, Copy, Drop)]
 pub enum Event {
     Open(u32),
     Withdraw(u32),
@@ -20,7 +22,7 @@ pub enum Event {
     Close,
 }
 
-#[derive(Drop)]
+#[derive(Clone, Copy, Drop)]
 pub enum Life {
     New,
     Opened,
@@ -28,14 +30,14 @@ pub enum Life {
 }
 
 // The applied state of an account.
-#[derive(Drop)]
+#[derive(Clone, Copy, Drop)]
 pub struct State {
     pub life: Life,
     pub balance: u32,
 }
 
 // What is known of many states at a glance: the lowest and the highest balance among the opened ones, 0 where none is, and which lives occur.
-#[derive(Drop)]
+#[derive(Clone, Copy, Drop)]
 pub struct Range {
     pub lowest: u32,
     pub highest: u32,

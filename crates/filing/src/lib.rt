@@ -1,4 +1,6 @@
 // What is filed with an event, the place that an event takes on an account, and the entries of one call, as values (docs/REGISTER.md, 2 and 9).
+#![tactic(auto)]
+
 ghost use Rattle.std.specs.Prelude.{◌≡◌};
 ghost use Rattle.rule.specs.Rule as rule;
 ghost use Rattle.filing.specs.Slots.{is_undecided, is_blank_filed, is_blank, committed_slot};
@@ -7,19 +9,19 @@ ghost use Rattle.filing.specs.Entries.{is_accepted, is_held, weighing_of, entry_
 use events::Event;
 
 // What is filed with an event and its entries: nothing that is decided looks at it.
-#[derive(Drop)]
+#[derive(Clone, Copy, Drop)]
 pub struct Filed {
     pub second: u32,
 }
 
-#[derive(Drop)]
+#[derive(Clone, Copy, Drop)]
 pub enum Decision {
     Undecided,
     Committed,
 }
 
 // A place of an account: an event in progress, or a request held, which has no decision and stands as undecided.
-#[derive(Drop)]
+#[derive(Clone, Copy, Drop)]
 pub struct Slot {
     pub transaction: u32,
     pub filed: Filed,
@@ -28,7 +30,7 @@ pub struct Slot {
 }
 
 // How a request is decided.
-#[derive(Drop)]
+#[derive(Clone, Copy, Drop)]
 pub enum Verdict {
     Accepted,
     Rejected,
@@ -36,7 +38,7 @@ pub enum Verdict {
 }
 
 // A decision, the number of outcomes weighed for it, and the reason of a rejection, 0 for any other.
-#[derive(Drop)]
+#[derive(Clone, Copy, Drop)]
 pub struct Weighing {
     pub verdict: Verdict,
     pub weighed: u32,
@@ -44,7 +46,7 @@ pub struct Weighing {
 }
 
 // What an entry says of its transaction: a vote with its weighing, a commit noted, an event applied with the balance after it, an event dropped.
-#[derive(Drop)]
+#[derive(Clone, Copy, Drop)]
 pub enum Told {
     Voted(Event, Weighing),
     Noted,
@@ -53,7 +55,7 @@ pub enum Told {
 }
 
 // An entry, as a value: without the number of the account, which an account does not know.
-#[derive(Drop)]
+#[derive(Clone, Copy, Drop)]
 pub struct Entry {
     pub transaction: u32,
     pub filed: Filed,
@@ -61,7 +63,7 @@ pub struct Entry {
 }
 
 // The entries of one call, in the order in which they were written: the first `count` places; the others are blank.
-#[derive(Drop)]
+#[derive(Clone, Copy, Drop)]
 pub struct Entries {
     pub at: [Entry; Entries::MOST],
     pub count: usize,

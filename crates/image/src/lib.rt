@@ -1,4 +1,6 @@
 // The image of an account: words with a fixed place for every field, which a caller in C or Rust owns (docs/REGISTER.md, 15).
+#![tactic(auto)]
+
 mod fields;
 mod places;
 

@@ -17,7 +17,7 @@ const AMOUNT: usize = FILED_WORDS + 2;
 const DECISION: usize = FILED_WORDS + 3;
 
 // What the words of a place read as, and whether they are a place's.
-#[derive(Drop)]
+#[derive(Clone, Copy, Drop)]
 pub(crate) struct Place {
     pub(crate) slot: Slot,
     pub(crate) valid: bool,

@@ -1,5 +1,7 @@
 // What messages and entries share of their bytes: numbers, highest byte first, rows of them, and the heading that a row begins with.
 // Every public function takes any buffer and any place: a byte past the end is not stored, and counts as 0 when it is read.
+#![tactic(auto)]
+
 ghost use Rattle.std.specs.Prelude.{◌≡◌, map, length, ◌+◌, ◌≤◌, ◌<◌, ◌^◌};
 ghost use Rattle.std.proofs.lemmas.List.Edits.{sets};
 ghost use Rattle.layout.specs.Number.{bytes_of, number_at};
@@ -16,7 +18,7 @@ pub const LAST_ACCOUNT: u16 = 15;
 pub const FIELDS: usize = 10;
 
 // How a kind of message or entry lies in bytes: the widths of its numbers, 0 where it has no more of them, and its whole length.
-#[derive(Drop)]
+#[derive(Clone, Copy, Drop)]
 pub struct Shape {
     pub widths: [u8; FIELDS],
     pub whole: usize,
@@ -31,7 +33,7 @@ impl Shape {
 }
 
 // What a writer answers: the length written, or the number of its refusal.
-#[derive(Drop)]
+#[derive(Clone, Copy, Drop)]
 pub enum Writing {
     Written(usize),
     Refused(u8),

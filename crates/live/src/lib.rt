@@ -1,5 +1,7 @@
 // What callers in C and Rust get: a register that they keep as an image, with one call and the outcome question, and the line of an entry (docs/REGISTER.md, 15).
 // A call reads and writes the words of the account that is named, and no others.
+#![tactic(auto)]
+
 mod call;
 mod export;
 mod lines;

@@ -6,7 +6,7 @@ use entry::EntryReading;
 use layout::Writing;
 
 // How many bytes the entry has, and how many its line; both 0 where no line was written.
-#[derive(Drop)]
+#[derive(Clone, Copy, Drop)]
 pub struct Lined {
     pub entry: usize,
     pub line: usize,

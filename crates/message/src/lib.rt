@@ -1,4 +1,6 @@
 // A message, its reader and its writer.
+#![tactic(auto)]
+
 ghost use Rattle.std.specs.Prelude.{◌≡◌};
 ghost use Rattle.layout.specs.Fields.{row_of_kind, whole_of};
 ghost use Rattle.layout.specs.Shapes.{padded, shape_of};
@@ -10,14 +12,14 @@ use filing::Filed;
 use layout::{Shape, Writing};
 
 // What every message brings.
-#[derive(Drop)]
+#[derive(Clone, Copy, Drop)]
 pub struct Heading {
     pub transaction: u32,
     pub account: u16,
     pub filed: Filed,
 }
 
-#[derive(Drop)]
+#[derive(Clone, Copy, Drop)]
 pub enum Message {
     Request(Heading, Event),
     Commit(Heading),
@@ -25,7 +27,7 @@ pub enum Message {
 }
 
 // What the reader answers: the message and its length, or the number of its refusal.
-#[derive(Drop)]
+#[derive(Clone, Copy, Drop)]
 pub enum Reading {
     Message(Message, usize),
     Refused(u8),

@@ -1,4 +1,6 @@
 // The program (section 12 of docs/REGISTER.md): reads messages from standard input, has the library make the text, and prints it as it comes.
+#![tactic(auto)]
+
 ghost use Rattle.std.specs.Prelude.{◌≤◌, length};
 
 fn main() {

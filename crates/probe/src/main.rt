@@ -1,4 +1,6 @@
 // The probe: drives each public call from outside, by frames of bytes, and tells the whole result in a line of text for each frame (docs/PROBE.md).
+#![tactic(auto)]
+
 mod calls;
 mod disturb;
 mod entries;
@@ -19,7 +21,7 @@ use register::Register;
 const LONGEST: usize = text::LONGEST_INPUT;
 
 // After a frame's answer: the register, and where the text ends.
-#[derive(Drop)]
+#[derive(Clone, Copy, Drop)]
 pub(crate) struct Answered {
     pub(crate) register: Register,
     pub(crate) at: usize,
@@ -34,7 +36,7 @@ impl Answered {
 }
 
 // After a frame: the register, where the text ends, and how many bytes the frame took.
-#[derive(Drop)]
+#[derive(Clone, Copy, Drop)]
 struct Next {
     register: Register,
     at: usize,

@@ -1,4 +1,6 @@
 // The register: sixteen accounts, and its public calls (docs/REGISTER.md, 7 and 11). A message changes the account that it names, in its place.
+#![tactic(auto)]
+
 mod export;
 mod numbers;
 mod place;
@@ -16,13 +18,13 @@ use layout::Writing;
 use message::{Message, Reading};
 pub use runs::{Passed, Ran, passed_by, refusal_of, run};
 
-#[derive(Drop)]
+#[derive(Clone, Copy, Drop)]
 pub struct Register {
     pub accounts: [Account; Register::ACCOUNTS],
 }
 
 // What sending a message gives: the register that follows, the entries written, and the answer.
-#[derive(Drop)]
+#[derive(Clone, Copy, Drop)]
 pub struct Sent {
     pub register: Register,
     pub entries: Entries,
@@ -30,14 +32,14 @@ pub struct Sent {
 }
 
 // What a call replies: the number of its refusal, or how many bytes the message had and how many bytes of entries were written.
-#[derive(Drop)]
+#[derive(Clone, Copy, Drop)]
 pub enum Reply {
     Refused(u8),
     Taken(usize, usize),
 }
 
 // What a call gives beside the buffer: the register that follows, and the reply.
-#[derive(Drop)]
+#[derive(Clone, Copy, Drop)]
 pub struct Called {
     pub register: Register,
     pub reply: Reply,

@@ -13,7 +13,7 @@ use layout::Writing;
 use message::{Message, Reading};
 
 // What a run comes to: messages met, messages refused, bytes of messages passed, bytes of entries written.
-#[derive(Drop)]
+#[derive(Clone, Copy, Drop)]
 pub struct Ran {
     pub met: usize,
     pub refused: usize,
@@ -22,7 +22,7 @@ pub struct Ran {
 }
 
 // What one message comes to, and whether nothing more is read after it.
-#[derive(Drop)]
+#[derive(Clone, Copy, Drop)]
 pub struct Passed {
     pub refused: usize,
     pub consumed: usize,

@@ -1,4 +1,6 @@
 // The program's text: an entry's line, and all that the program prints, step by step.
+#![tactic(auto)]
+
 mod line;
 mod program;
 mod turns;

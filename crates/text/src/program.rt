@@ -15,7 +15,7 @@ pub const LONGEST_INPUT: usize = 65_536;
 pub const LONGEST_TEXT: usize = Entries::MOST * crate::LONGEST_LINE;
 
 // What has been served of an input: the register, where the next message starts, the messages met and refused, and how long the last text was.
-#[derive(Drop)]
+#[derive(Clone, Copy, Drop)]
 pub struct Served {
     pub register: Register,
     pub from: usize,

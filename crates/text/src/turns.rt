@@ -13,7 +13,7 @@ use message::Reading;
 use register::{Register, Reply, Sent};
 
 // What a message came to: the register that follows, the reply, and how long its text is.
-#[derive(Drop)]
+#[derive(Clone, Copy, Drop)]
 pub(crate) struct Turned {
     pub(crate) register: Register,
     pub(crate) reply: Reply,

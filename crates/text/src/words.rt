@@ -7,7 +7,7 @@ use events::Event;
 use filing::{Told, Verdict};
 
 // A name of at most eight letters; the places after it hold spaces.
-#[derive(Drop)]
+#[derive(Clone, Copy, Drop)]
 pub(crate) struct Word {
     pub(crate) length: usize,
     pub(crate) letters: [u8; 8],
