@@ -5,7 +5,7 @@ use Prim.Native.Nat.{ℕ, zero, suc, ◌+◌, ◌*◌, ◌/◌, ◌%◌, ◌^◌
 use native.Mathlib.Nat.{add-zero, add-suc, zero-add, add_assoc, add_comm, mul_assoc, mul_comm, pow-suc, pow-zero, div-div-eq-div-mul, div-lt_iff_lt-mul, div-one, mul-one, mod-lt, mod-eq_of_lt, div-add-mod'}
 use native.Mathlib.Numerals.{add-one}
 use native.Mathlib.Omega.{arith}
-use mathlib.Core.Path.{◌≡◌, refl, sym, ap}
+use mathlib.Core.Path.{◌≡◌, refl, sym, ap, ◌∙◌}
 use mathlib.Core.List.{List, [], ◌∷◌, ◌++◌, append-nil, append_assoc}
 use lib.Arith.{mod-mul, digits_lt, digits_div, digits_mod}
 use lib.Dec.{lit<}
@@ -97,7 +97,9 @@ number_at-bytes_of (suc width) number before after h =
     let e : before ++ (bytes_of width q ++ (d ∷ [])) ++ after ≡ high ++ d ∷ after = rw (← append_assoc) (append_snoc high d after) in
     let fits : q < 256 ^ width = (div-lt_iff_lt-mul (lit< tt)).1 (rw pow-suc at h) in
     let last : length high ≡ length before + width = rw (length-append, length-bytes_of) in
-    rw (e, number_at-bytes_of width q before (d ∷ after) fits, get_or_at high d after 0 (length before + width) last) (div-add-mod' number 256)
+    let ends : number_at (high ++ d ∷ after) (length before) (suc width) ≡ number =
+        rw (number_at-bytes_of width q before (d ∷ after) fits, get_or_at high d after 0 (length before + width) last) (div-add-mod' number 256) in
+    ap (λ (l : List ℕ). number_at l (length before) (suc width)) e ∙ ends
 
 -- writing what was read
 pub bytes_of-number_at : (width at : ℕ) (bytes : List ℕ) → at + width ≤ length bytes → AreBytes bytes
