@@ -4,7 +4,7 @@ use Rattle.std.proofs.Common.{◌≡◌, ◌<◌, sym, ◌∙◌, length, true, 
 use Rattle.filing.specs.Entries.{is_accepted}
 use Rattle.account.proofs.Handed.{eight-in-progress, eight-held}
 use Rattle.account.proofs.Known.{knows-few}
-use Rattle.account.proofs.First.{first-ranged, Voting}
+use Rattle.account.proofs.First.{first-ranged}
 use Rattle.account.proofs.Voting.{voting-none, voting-stays, voting-accept, voting-reject, voting-all}
 use Rattle.account.proofs.Account.drain.Goals as goal
 use Rattle.account.proofs.Account.drain.Goals.{then-at-voted, then-is_accepted, else-is_accepted, else-at-voted}
@@ -30,20 +30,20 @@ loop-at-preserved c =
     let v = c.loop-at in
     let below : v.at < a.self.holding = c.loop-at-test.true in
     elim c.if-at-voted.branch [
-      then-at-voted w ↦
-        let first = rw c.is_held.ensures at w.if-at-voted.true in
-        let entry = w.voted in
-        elim w.if-is_accepted.branch [
-          then-is_accepted u ↦
-            rw (w.next-is, w.entries-is, w.outcomes-is, w.voted-is, u.next-is, u.outcomes-is)
-            (voting-accept _ a.self a.written v.next v.entries v.outcomes v.voted v.at v.invariant below weigh.result weigh.ensures entry.result entry.ensures first first-ranged u.with-outcomes.result (sym w.is_accepted.ensures ∙ u.if-is_accepted.true) u.with-outcomes.ensures)
-        | else-is_accepted u ↦
-            rw (w.next-is, w.entries-is, w.outcomes-is, w.voted-is, u.next-is, u.outcomes-is)
-            (voting-reject _ a.self a.written v.next v.entries v.outcomes v.voted v.at v.invariant below weigh.result weigh.ensures entry.result entry.ensures first (sym w.is_accepted.ensures ∙ u.if-is_accepted.false))
-        ]
-    | else-at-voted w ↦
-        rw (w.next-is, w.entries-is, w.outcomes-is, w.voted-is)
-        (voting-stays _ a.self a.written v.next v.entries v.outcomes v.voted v.at v.invariant below weigh.result weigh.ensures (rw c.is_held.ensures at w.if-at-voted.false))
+      | then-at-voted w ↦
+          let first = rw c.is_held.ensures at w.if-at-voted.true in
+          let entry = w.voted in
+          elim w.if-is_accepted.branch [
+            | then-is_accepted u ↦
+                rw (w.next-is, w.entries-is, w.outcomes-is, w.voted-is, u.next-is, u.outcomes-is)
+                (voting-accept _ a.self a.written v.next v.entries v.outcomes v.voted v.at v.invariant below weigh.result weigh.ensures entry.result entry.ensures first first-ranged u.with-outcomes.result (sym w.is_accepted.ensures ∙ u.if-is_accepted.true) u.with-outcomes.ensures)
+            | else-is_accepted u ↦
+                rw (w.next-is, w.entries-is, w.outcomes-is, w.voted-is, u.next-is, u.outcomes-is)
+                (voting-reject _ a.self a.written v.next v.entries v.outcomes v.voted v.at v.invariant below weigh.result weigh.ensures entry.result entry.ensures first (sym w.is_accepted.ensures ∙ u.if-is_accepted.false))
+          ]
+      | else-at-voted w ↦
+          rw (w.next-is, w.entries-is, w.outcomes-is, w.voted-is)
+          (voting-stays _ a.self a.written v.next v.entries v.outcomes v.voted v.at v.invariant below weigh.result weigh.ensures (rw c.is_held.ensures at w.if-at-voted.false))
     ]
 
 pub returns : goal.returns

@@ -20,14 +20,14 @@ loop-at-preserved c =
     let below : v.at < a.self.progressing = c.loop-at-test.true in (
       v.invariant.0,
       elim c.if-at-ended.branch [
-        then-at-ended w ↦
-          let first = rw c.is_undecided.ensures at w.if-at-ended.true in
-          let entry = w.applied.ensures ∙ ap (λ (s : State). entry_of (applied x.transaction x.filed x.event s.balance)) w.effect-state.ensures in
-          rw (w.next-is, w.entries-is, w.state-is, w.ended-is, w.effect-state.ensures)
-          (applying-next _ a.self row (only_entry a.first) v.next v.entries v.state v.ended v.at v.invariant.1 below w.applied.result entry first)
-      | else-at-ended w ↦
-          rw (w.next-is, w.entries-is, w.state-is, w.ended-is)
-          (applying-stays _ a.self row (only_entry a.first) v.next v.entries v.state v.ended v.at v.invariant.1 below (rw c.is_undecided.ensures at w.if-at-ended.false))
+        | then-at-ended w ↦
+            let first = rw c.is_undecided.ensures at w.if-at-ended.true in
+            let entry = w.applied.ensures ∙ ap (λ (s : State). entry_of (applied x.transaction x.filed x.event s.balance)) w.effect-state.ensures in
+            rw (w.next-is, w.entries-is, w.state-is, w.ended-is, w.effect-state.ensures)
+            (applying-next _ a.self row (only_entry a.first) v.next v.entries v.state v.ended v.at v.invariant.1 below w.applied.result entry first)
+        | else-at-ended w ↦
+            rw (w.next-is, w.entries-is, w.state-is, w.ended-is)
+            (applying-stays _ a.self row (only_entry a.first) v.next v.entries v.state v.ended v.at v.invariant.1 below (rw c.is_undecided.ensures at w.if-at-ended.false))
       ],
     )
 
