@@ -8,13 +8,12 @@ use denote.Struct.Laws.{val}
 use Rattle.account.specs.declared.Account.{Account}
 use Rattle.account.specs.contracts.Account.{the_type, the_row}
 use Rattle.account.proofs.Account.TheLaws.{the_laws}
-use Rattle.account.proofs.Places.{as_many}
 
 abbrev pub Handed : Account → Type 0
 Handed a = Is the_row a (val the_type the_laws a ∷ [])
 
 pub eight-in-progress : (a : Account) → Handed a → length a.progress ≡ 8
-eight-in-progress a known = as_many a.progress known.1.1.1.0.1.0.1
+eight-in-progress a known = known.1.1.1.0.1.0.1
 
 pub eight-held : (a : Account) → Handed a → length a.held ≡ 8
-eight-held a known = as_many a.held known.1.1.1.1.1.0.1.0.1
+eight-held a known = known.1.1.1.1.1.0.1.0.1
