@@ -1,4 +1,4 @@
-// The live calls for callers in C or Rust, by the static library (include/nacozteya.h).
+// The live calls as callers in C or Rust have them; the static library (crate `live_c`, include/nacozteya.h) exports them.
 ghost use Rattle.std.specs.Prelude.{◌≡◌, [], ◌∷◌, set};
 ghost use Rattle.std.proofs.lemmas.List.Edits.{sets};
 ghost use Rattle.live.specs.Exports.{state_words};
@@ -9,8 +9,7 @@ use account::Outlook;
 use events::State;
 
 // The call, with the bytes consumed and the bytes of entries written in the first places of `counts`, as many as there are; the answer is the number of the refusal, or 0.
-#[unsafe(no_mangle)]
-pub extern "C" fn nacozteya_call(
+pub fn nacozteya_call(
     image: &mut [u32],
     message: &[u8],
     entries: &mut [u8],
@@ -28,13 +27,7 @@ pub extern "C" fn nacozteya_call(
 }
 
 // The outcome question, with the life, the balance and the number of undecided events that are applied in the first places of `state`, as many as there are; the answer is the number of the refusal, which stores nothing, or 0.
-#[unsafe(no_mangle)]
-pub extern "C" fn nacozteya_outlook(
-    image: &[u32],
-    account: u16,
-    number: u32,
-    state: &mut [u32],
-) -> u64
+pub fn nacozteya_outlook(image: &[u32], account: u16, number: u32, state: &mut [u32]) -> u64
     ensures { (result ≡ (exported_look_of image.now account number state.old).answer) × (state.new ≡ (exported_look_of image.now account number state.old).state) }
 {
     let outlook = question::outlook_image(image, account, number);
@@ -48,8 +41,7 @@ pub extern "C" fn nacozteya_outlook(
 }
 
 // The line of an entry, with the bytes of the entry and those of its line in the first places of `counts`, as many as there are; the answer is the length of the line, 0 where there is none.
-#[unsafe(no_mangle)]
-pub extern "C" fn nacozteya_line(entry: &[u8], line: &mut [u8], counts: &mut [u64]) -> u64
+pub fn nacozteya_line(entry: &[u8], line: &mut [u8], counts: &mut [u64]) -> u64
     ensures { (result ≡ (exported_line_of entry.now line.old counts.old).answer) × (line.new ≡ (exported_line_of entry.now line.old counts.old).line) × (counts.new ≡ (exported_line_of entry.now line.old counts.old).counts) }
 {
     let lined = lines::write_entry_line(entry, line);

@@ -9,6 +9,7 @@ mod numbers;
 mod question;
 
 pub use call::call_image;
+pub use export::{nacozteya_call, nacozteya_line, nacozteya_outlook};
 pub use lines::{Lined, write_entry_line};
 pub use question::outlook_image;
 use register::Register;

@@ -1,12 +1,11 @@
-// A run of messages for callers in C or Rust, by the static library (include/nacozteya.h).
+// A run of messages as callers in C or Rust have it; the static library (crate `register_c`, include/nacozteya.h) exports it.
 ghost use Rattle.std.specs.Prelude.{◌≡◌, set};
 ghost use Rattle.register.specs.First.{export_of};
 
 use crate::runs;
 
 // The run, with its four numbers in the first places of `counts`, as many as there are; the answer is the length of the entries written.
-#[unsafe(no_mangle)]
-pub extern "C" fn nacozteya_run(messages: &[u8], entries: &mut [u8], counts: &mut [u64]) -> u64
+pub fn nacozteya_run(messages: &[u8], entries: &mut [u8], counts: &mut [u64]) -> u64
     ensures { (result ≡ (export_of messages.now entries.old counts.old).answer) × (entries.new ≡ (export_of messages.now entries.old counts.old).entries) × (counts.new ≡ (export_of messages.now entries.old counts.old).counts) }
 {
     let ran = runs::run(messages, entries);

@@ -13,6 +13,7 @@ ghost use Rattle.register.specs.declared.Reply.TheVariants.{Refused};
 ghost use Rattle.register.specs.First.{fresh_register, sent_of, outlook_in, call_of};
 
 use account::{Account, Answer, Outlook, Stepped};
+pub use export::nacozteya_run;
 use filing::Entries;
 use layout::Writing;
 use message::{Message, Reading};
