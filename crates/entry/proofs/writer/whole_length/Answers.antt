@@ -1,0 +1,29 @@
+-- The sum so far is the length of the entries passed; a count above the number of places counts as all of them.
+-- Assumes nothing.
+use Rattle.std.proofs.Common.{◌+◌, ◌≡◌, min, length, refl, ap₂, arith}
+use Rattle.entry.specs.Bytes.{wholes_of}
+use Rattle.entry.proofs.Stored.{wholes-more, all-places}
+use Rattle.entry.proofs.writer.whole_length.Goals as goal
+
+pub loop-i-init : goal.loop-i-init
+unfolding wholes_of
+loop-i-init c = record { within = omega arith; few = omega arith; sum = refl }
+
+pub loop-i-preserved : goal.loop-i-preserved
+loop-i-preserved c =
+    let a = c.args in
+    let v = c.loop-i in
+    let places : length a.entries.at ≡ 17 = omega arith in
+    record {
+      within = omega arith;
+      few = omega arith;
+      sum = rw (wholes-more a.entries.at v.i (omega arith)) (ap₂ ◌+◌ v.invariant.sum c.told_length-whole.ensures.0);
+    }
+
+pub returns : goal.returns
+returns c =
+    let v = c.loop-i in
+    let entries = c.args.entries in
+    let places : length entries.at ≡ 17 = omega arith in
+    let i : v.i ≡ min entries.count 17 = omega arith in
+    rw (i, all-places entries.at entries.count places) at v.invariant.sum
