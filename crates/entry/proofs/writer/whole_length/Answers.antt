@@ -1,4 +1,4 @@
--- The sum so far is the length of the entries passed; a count above the number of places counts as all of them.
+-- The sum so far is the length of the entries passed.
 -- Assumes nothing.
 use Rattle.std.proofs.Common.{◌+◌, ◌≡◌, min, length, refl, ap₂, arith}
 use Rattle.entry.specs.Bytes.{wholes_of}
@@ -19,11 +19,3 @@ loop-i-preserved c =
       few = omega arith;
       sum = rw (wholes-more a.entries.at v.i (omega arith)) (ap₂ ◌+◌ v.invariant.sum c.told_length-whole.ensures.0);
     }
-
-pub returns : goal.returns
-returns c =
-    let v = c.loop-i in
-    let entries = c.args.entries in
-    let places : length entries.at ≡ 17 = omega arith in
-    let i : v.i ≡ min entries.count 17 = omega arith in
-    rw (i, all-places entries.at entries.count places) at v.invariant.sum
