@@ -1,8 +1,8 @@
 -- The sum so far is the length of the entries passed.
 -- Assumes nothing.
-use Rattle.std.proofs.Common.{◌+◌, ◌≡◌, min, length, refl, ap₂, arith}
+use Rattle.std.proofs.Common.{◌+◌, ◌≡◌, length, refl, ap₂, arith}
 use Rattle.entry.specs.Bytes.{wholes_of}
-use Rattle.entry.proofs.Stored.{wholes-more, all-places}
+use Rattle.entry.proofs.Stored.{wholes-more}
 use Rattle.entry.proofs.writer.whole_length.Goals as goal
 
 pub loop-i-init : goal.loop-i-init

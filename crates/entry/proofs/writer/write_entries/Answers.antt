@@ -1,6 +1,6 @@
 -- Each way out is a law of the writer's definition; one entry more is stored where the others end.
 -- Assumes nothing.
-use Rattle.std.proofs.Common.{◌+◌, ◌<◌, ◌≤◌, ◌≡◌, min, true, false, leb, length, refl, sym, ap₂, ◌∙◌, arith}
+use Rattle.std.proofs.Common.{◌+◌, ◌<◌, ◌≡◌, min, true, false, leb, length, refl, sym, ap₂, ◌∙◌, arith}
 use borrow.Author.Tests.{leb-true, leb-false}
 use Rattle.entry.specs.Bytes.{bytes_of_entries, wholes_of, list_of}
 use Rattle.entry.proofs.Stored.{wholes-more, stored_more, all-places}
