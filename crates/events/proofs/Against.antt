@@ -4,11 +4,11 @@ use Prim.Native.Nat.{ℕ, zero, suc, ◌+◌, ◌-◌, ◌≤◌, ◌<◌}
 use native.Mathlib.Omega.{arith}
 use mathlib.Core.Path.{◌≡◌, refl, sym, ◌∙◌, ap, ap₂}
 use mathlib.Core.Logic.{◌↔◌, ◌⊎◌, inl, inr}
-use mathlib.Core.Bool.{Bool, true, false, cond, not, ◌&&◌, ◌||◌, true≢false, false≢true}
-use mathlib.Core.List.{List, [], ◌∷◌}
+use mathlib.Core.Bool.{Bool, true, false, not, ◌&&◌, ◌||◌, true≢false, false≢true}
+use mathlib.Core.List.{[], ◌∷◌}
 use mathlib.Core.Option.{Option, none, some, some-ne-none, some-injective}
 use lib.Dec.{leb, ltb, eqb}
-use borrow.Author.Tests.{ltb-true, ltb-false, lt-ltb, le-ltb, leb-true, leb-false, le-leb, lt-leb, eqb-true, eqb-false, eq-eqb, ne_eqb}
+use borrow.Author.Tests.{ltb-true, ltb-false, lt-ltb, le-ltb, leb-true, leb-false, le-leb, eqb-true, eqb-false, eq-eqb, ne_eqb}
 use Rattle.rule.specs.Tests.{test, first_of}
 use Rattle.rule.specs.Rule.{absent, guard}
 use Rattle.events.specs.declared.Event.{Event}

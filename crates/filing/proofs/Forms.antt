@@ -1,8 +1,6 @@
 -- The forms of a place and of the entries of a call: by the laws on a list that is filled up to a size, the rest by computing.
 -- Assumes nothing.
 use mathlib.Core.Path.{refl, ap}
-use mathlib.Core.List.{[], ◌∷◌}
-use Rattle.filing.specs.declared.Slot.{Slot}
 use Rattle.filing.specs.Slots.{is_blank}
 use Rattle.filing.specs.Entries.{entry_of, blank_entry, entries_of}
 use Rattle.filing.specs.Forms.{FormsHold}

@@ -11,7 +11,6 @@ use Rattle.filing.specs.declared.Slot.{Slot}
 use Rattle.filing.specs.declared.Verdict.TheVariants.{Accepted, Rejected, Held}
 use Rattle.filing.specs.declared.Weighing.{Weighing}
 use Rattle.filing.specs.declared.Told.TheVariants.{Voted, Noted, Applied, Dropped}
-use Rattle.filing.specs.declared.Entry.{Entry}
 use Rattle.filing.specs.declared.Entries.{Entries}
 use Rattle.filing.specs.Slots.{RuleSlot, is_undecided, slot_of, place_of, committed_slot, is_blank}
 use Rattle.filing.specs.Entries.{RuleEntry, is_accepted, is_held, weighing_of, weighing_in, entry_of, entries_of, only_entry}

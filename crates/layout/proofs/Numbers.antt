@@ -98,7 +98,7 @@ number_at-bytes_of (suc width) number before after h =
     let fits : q < 256 ^ width = (div-lt_iff_lt-mul (lit< tt)).1 (rw pow-suc at h) in
     let last : length high ≡ length before + width = rw (length-append, length-bytes_of) in
     let ends : number_at (high ++ d ∷ after) (length before) (suc width) ≡ number =
-        rw (number_at-bytes_of width q before (d ∷ after) fits, get_or_at high d after 0 (length before + width) last) (div-add-mod' number 256) in
+    rw (number_at-bytes_of width q before (d ∷ after) fits, get_or_at high d after 0 (length before + width) last) (div-add-mod' number 256) in
     ap (λ (l : List ℕ). number_at l (length before) (suc width)) e ∙ ends
 
 -- writing what was read

@@ -18,7 +18,6 @@ use Rattle.layout.specs.Answers.{wrote_over, refused_with}
 use Rattle.layout.proofs.Tables.{unknown}
 use Rattle.layout.proofs.Plain.{numbers-plain}
 use Rattle.layout.proofs.Answers.{wrote-stays, cond-stays}
-use Rattle.message.specs.declared.Message.{Message}
 use Rattle.message.specs.declared.Reading.{Reading}
 use Rattle.message.specs.declared.Reading.TheVariants as Reading'
 use Rattle.message.specs.Bytes.{messages, heading_of, message_of, bytes_of_message, length_of_message}

@@ -5,12 +5,12 @@ use mathlib.Core.Path.{◌≡◌, refl, sym, ◌∙◌, ap, ap₂, fun_ext}
 use mathlib.Core.Bool.{Bool, true, false, cond, not, ◌||◌}
 use mathlib.Core.List.{List, [], ◌∷◌, ◌++◌, map}
 use mathlib.Core.Option.{Option, none, some}
-use lib.Dec.{eqb, leb}
-use lib.ListN.{length, length-map}
+use lib.Dec.{eqb}
+use lib.ListN.{length-map}
 use Rattle.rule.specs.Lists.{some_of, keep, numbers}
 use Rattle.rule.specs.Rule.{Rule, undecided, committed, Slot, slot, Account, Message, request, commit, abort, Verdict, accept, reject, hold, Weighing, Entry, voted, applied, dropped, new_account}
 use Rattle.rule.specs.Outcome.{undecided_of, outcome, outcomes}
-use Rattle.rule.specs.Weigh.{unweighed, weigh, decide, decide_behind}
+use Rattle.rule.specs.Weigh.{decide, decide_behind}
 use Rattle.rule.specs.Step.{Step, named, mark, without, dropping, after, settled_state, applications, unsettled, drain_by, asked_by, drain, settle, asked, committing, aborting, step}
 use Rattle.rule.specs.Call.{named_committed, refusal, Called, call_by, call, reached}
 use Rattle.rule.specs.History.{Seen, history}

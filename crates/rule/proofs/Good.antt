@@ -2,7 +2,7 @@
 -- undecided and the oldest held request stays held. Each message that is taken leads from one account at rest to the next, and every entry on the way has its owner.
 -- Settling goes by induction on the events in progress, draining by induction on the requests held.
 -- Assumes nothing.
-use Prim.Native.Nat.{ℕ, ◌+◌, ◌≤◌, ◌<◌}
+use Prim.Native.Nat.{ℕ, ◌≤◌, ◌<◌}
 use mathlib.Core.Path.{◌≡◌, refl, sym, ◌∙◌, ap, subst}
 use mathlib.Core.Bool.{Bool, true, false, cond, ◌||◌, false≢true}
 use mathlib.Core.List.{List, [], ◌∷◌, ◌++◌, append_assoc}

@@ -9,9 +9,9 @@ use mathlib.Core.Option.{Option, none, some}
 use borrow.Author.Tests.{eq-eqb, ne_eqb}
 use lib.ListN.{get_or}
 use Rattle.rule.specs.Lists.{keep, numbers}
-use Rattle.rule.specs.Rule.{Rule, absent, guard, Decision, undecided, committed, Slot, Account, Message, Weighing, Entry}
+use Rattle.rule.specs.Rule.{Rule, absent, guard, Decision, Slot, Account, Message, Weighing, Entry}
 use Rattle.rule.specs.Step.{Step}
-use Rattle.rule.specs.History.{Fate, waiting, voted_no, ongoing, was_applied, was_dropped, Line, live, Seen}
+use Rattle.rule.specs.History.{Fate, Line, live, Seen}
 use Rattle.rule.specs.Exact.{number_of}
 use Rattle.rule.specs.Literal.{ListLiteral, NumbersLiteral, BitLiteral, SlotLiteral, GuardLiteral, CallLiteral, EntryLiteral, HistoryLiteral, EndsLiteral, FiledLiteral}
 use Rattle.rule.proofs.Lists.{some-parts, parts-some, every-parts, parts-every, keep_append, length-numbers}

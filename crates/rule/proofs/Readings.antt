@@ -5,7 +5,7 @@ use mathlib.Core.Path.{◌≡◌, refl, ap, ◌∙◌}
 use mathlib.Core.List.{List, [], ◌∷◌, ◌++◌}
 use native.Mathlib.Omega.{arith}
 use borrow.Author.Tests.{eq-eqb, ne_eqb}
-use Rattle.rule.specs.Rule.{undecided, committed, Slot, slot, Verdict, accept, reject, hold, Weighing, Entry, voted, noted, applied, dropped}
+use Rattle.rule.specs.Rule.{undecided, committed, Slot, slot, hold, Weighing, Entry, voted, noted, applied, dropped}
 use Rattle.rule.specs.Outcome.{undecided_of}
 use Rattle.rule.specs.History.{waiting, voted_no, ongoing, was_applied, was_dropped, Line, line, owns}
 use Rattle.rule.specs.Demand.{in_progress, on_hold, serial, applied_events, course}

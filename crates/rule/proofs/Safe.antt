@@ -1,7 +1,7 @@
 -- Events whose guards are true in all outcomes of the older ones, as a walk down the events: the guard at the head, then on with the effect,
 -- or, at an undecided event, on both ways. Each step of an account keeps it, by induction on the events; one law ties it to the numbered list.
 -- Assumes nothing.
-use Prim.Native.Nat.{ℕ, zero, ◌+◌, ◌/◌, ◌%◌}
+use Prim.Native.Nat.{ℕ, zero, ◌/◌, ◌%◌}
 use mathlib.Core.Path.{◌≡◌, refl}
 use mathlib.Core.Bool.{Bool, true, false, cond, not}
 use mathlib.Core.List.{List, [], ◌∷◌, ◌++◌, append_assoc, append-nil}

@@ -2,7 +2,7 @@
 -- `Wait` what waits, with those dropped while they waited; `Live` from the first line in progress on; `Past` before it, with the state so far and the guard of each event applied.
 -- Each entry that an account writes turns such a tie into the next one, by induction on the tie.
 -- Assumes nothing.
-use Prim.Native.Nat.{ℕ, ◌+◌}
+use Prim.Native.Nat.{ℕ}
 use mathlib.Core.Path.{◌≡◌, refl, ap}
 use mathlib.Core.Bool.{Bool, true, false, cond, not}
 use mathlib.Core.List.{List, [], ◌∷◌, ◌++◌, map}

@@ -1,7 +1,7 @@
 -- Weighing is exact: what each verdict says of the outcomes by their numbers; and what the numbers say (docs/REGISTER.md, 4).
 -- Assumes nothing.
 use Rattle.std.specs.Prelude.{ℕ, zero, suc, ◌+◌, ◌*◌, ◌<◌, ◌≤◌, ◌^◌, ◌≡◌, ◌↔◌, Bool, true, false, cond, List, [], ◌∷◌, ◌++◌, length, get_or}
-use Rattle.std.proofs.Math.Option.{Option, none, some}
+use Rattle.std.proofs.Math.Option.{none, some}
 use Rattle.std.specs.Int.Count.{ones}
 use Rattle.rule.specs.Rule.{Rule, guard, Slot, slot, undecided, committed, accept, reject, hold}
 use Rattle.rule.specs.Outcome.{undecided_of, applied_in, bit, outcome, outcomes}
