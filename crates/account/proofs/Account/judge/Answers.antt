@@ -50,7 +50,7 @@ loop-at-preserved c =
     let here = sought-here t a.progress blank v.at v.event v.found room v.invariant.1.sought join.event join.found (omega arith) in
     let else = sought-else t a.progress blank v.at v.event v.found room v.invariant.1.sought join.event join.found in
     let sought : SoughtBefore t a.progress blank (v.at + 1) join.event join.found =
-        elim join.branch [ then-transaction-slot w ↦ here w.if-transaction-slot.true w.event-is w.found-is | else-transaction-slot w ↦ else w.if-transaction-slot.false w.event-is w.found-is ] in (
+    elim join.branch [ then-transaction-slot w ↦ here w.if-transaction-slot.true w.event-is w.found-is | else-transaction-slot w ↦ else w.if-transaction-slot.false w.event-is w.found-is ] in (
       rw (used-more a.progress v.at blank room) (c.with-outcomes.ensures a.state (used a.progress v.at) x.transaction x.filed v.invariant.0),
       events-more _ a t v.event v.found v.in_order v.transactions v.at less few.0 many v.invariant.1 join.event join.found sought c.is_undecided.result c.is_undecided.ensures,
     )
@@ -79,7 +79,7 @@ loop-at-3-preserved c =
     let here = sought-here t a.held w.found v.at v.request v.found room v.invariant.sought join.request join.found (omega arith) in
     let else = sought-else t a.held w.found v.at v.request v.found room v.invariant.sought join.request join.found in
     let sought : SoughtBefore t a.held w.found (v.at + 1) join.request join.found =
-        elim join.branch [ then-transaction-slot-2 u ↦ here u.if-transaction-slot-2.true u.request-is u.found-is | else-transaction-slot-2 u ↦ else u.if-transaction-slot-2.false u.request-is u.found-is ] in
+    elim join.branch [ then-transaction-slot-2 u ↦ here u.if-transaction-slot-2.true u.request-is u.found-is | else-transaction-slot-2 u ↦ else u.if-transaction-slot-2.false u.request-is u.found-is ] in
     let passed : w.at ≡ a.progressing = omega (arith, w.invariant.1.within, c.loop-at-test.false) in
     let known = knows-end _ a.state a.progress w.outcomes w.at a.progressing passed w.invariant.0 in
     requests-more _ a t w.outcomes.guarded w.found w.in_order w.transactions v.request v.found v.in_order v.transactions v.at less few.0 few.1 many_held v.invariant

@@ -13,12 +13,12 @@ loop-at-preserved c =
     let row = a.self.progress in
     let below : v.at < length row = omega (arith, v.invariant.0) in
     elim c.if-transaction-slot.branch [
-      then-transaction-slot w ↦ (
+      | then-transaction-slot w ↦ (
         omega (arith, v.invariant.0),
         rw (w.next-is, w.left-is) (out-kept a.transaction row v.at below v.next.progress v.left v.invariant.1 w.if-transaction-slot.true),
         rw w.next-is v.invariant.2,
       )
-    | else-transaction-slot w ↦ (
+      | else-transaction-slot w ↦ (
         omega (arith, v.invariant.0),
         rw (w.next-is, w.left-is) (out-gone a.transaction row v.at below v.next.progress v.left v.invariant.1 w.if-transaction-slot.false),
         rw w.next-is v.invariant.2,
