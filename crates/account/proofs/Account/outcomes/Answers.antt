@@ -1,10 +1,9 @@
--- With fewer than eight events so far there are at most 128 outcomes; an event more is what the helper ensures.
+-- With fewer than eight events so far there are at most 128 outcomes, so that with one more their number still fits.
 -- Assumes nothing.
-use Rattle.std.proofs.Common.{◌≡◌, ◌≤◌, length, get_or, arith}
-use Rattle.filing.specs.Slots.{blank}
+use Rattle.std.proofs.Common.{◌≤◌, length, arith}
 use Rattle.account.specs.Places.{used}
 use Rattle.account.proofs.Handed.{eight-in-progress}
-use Rattle.account.proofs.Places.{used-more, count-used}
+use Rattle.account.proofs.Places.{count-used}
 use Rattle.account.proofs.Known.{knows-few}
 use Rattle.account.proofs.Account.outcomes.Goals as goal
 
