@@ -58,7 +58,6 @@ loop-at-preserved c =
 pub returns-then-not-is_blank : goal.returns-then-not-is_blank
 returns-then-not-is_blank c =
     let a = c.args.self in
-    let few = limits a.progressing a.holding c.if-progressing-holding.false in
     let passed : c.loop-at.at ≡ a.progressing = omega (arith, c.loop-at.invariant.1.within, c.loop-at-test.false) in
     let v = c.loop-at-2 in
     let broken = blanks-broken a.progress c.loop-at.at v.at (omega arith) (eight-in-progress a c.well_formed.0) v.invariant (sym c.is_blank.ensures ∙ c.if-not-is_blank.true) in
@@ -89,7 +88,6 @@ loop-at-3-preserved c =
 pub returns-then-not-is_blank-2 : goal.returns-then-not-is_blank-2
 returns-then-not-is_blank-2 c =
     let a = c.args.self in
-    let few = limits a.progressing a.holding c.if-progressing-holding.false in
     let w = c.loop-at-3 in
     let passed : w.at ≡ a.holding = omega (arith, w.invariant.within, c.loop-at-3-test.false) in
     let v = c.loop-at-4 in

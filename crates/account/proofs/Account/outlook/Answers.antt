@@ -1,10 +1,7 @@
 -- 5 where the account is not in order, 12 where something is left of the number, else what the way reached.
 -- Assumes nothing.
-use Rattle.std.proofs.Common.{◌≡◌, ◌≤◌, true, length, sym, ap, ◌∙◌, arith}
-use borrow.Author.Tests.{not-true, not-false}
-use Rattle.filing.specs.Slots.{places}
+use Rattle.std.proofs.Common.{◌≤◌, length, sym, ap, ◌∙◌, arith}
 use Rattle.account.specs.declared.question.Reached.{Reached}
-use Rattle.account.specs.First.{in_order_of}
 use Rattle.account.proofs.Handed.{eight-in-progress}
 use Rattle.account.proofs.Clauses.{clauses}
 use Rattle.account.proofs.Walks.{reached-next, reached-end, outlook-order, outlook-none, outlook-there}
