@@ -25,6 +25,7 @@ pub mod Answers
 pub mod Forms
 pub mod Plain
 pub mod First
+pub mod Said
 pub mod Kept
 pub mod Refused
 pub mod Promises
