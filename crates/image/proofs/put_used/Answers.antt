@@ -1,6 +1,6 @@
 -- What is left of so much of the row, stored from here on, makes up all of it.
 -- Assumes nothing.
-use Rattle.std.proofs.Common.{◌+◌, ◌≤◌, ◌≡◌, length, take, refl, ap, sym, ◌∙◌, arith, leb-true}
+use Rattle.std.proofs.Common.{◌+◌, length, take, refl, ap, sym, ◌∙◌, arith, leb-true}
 use Rattle.std.proofs.lemmas.List.{length-take-le, get_or-take}
 use Rattle.std.proofs.lemmas.List.Edits.{sets}
 use Rattle.filing.specs.declared.Slot.{Slot}

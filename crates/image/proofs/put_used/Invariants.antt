@@ -9,7 +9,7 @@ abbrev pub invariant-loop-i : goal.invariant-loop-i
 invariant-loop-i l = record {
   row : Storing (take l.in_progress l.account.progress) l.initial.image l.initial.at l.image l.at l.i;
   few : l.in_progress ≤ length l.account.progress;
-  behind : l.initial.at + row_words ≤ length l.initial.image
+  behind : l.initial.at + row_words ≤ length l.initial.image;
 }
 
 abbrev pub decreases-loop-i : goal.decreases-loop-i
@@ -19,7 +19,7 @@ abbrev pub invariant-loop-i-then-has_room : goal.invariant-loop-i-then-has_room
 invariant-loop-i-then-has_room l = record {
   row : Storing (take l.in_holding l.account.held) l.initial.image l.initial.at l.image l.at l.i;
   few : l.in_holding ≤ length l.account.held;
-  behind : l.initial.at + row_words ≤ length l.initial.image
+  behind : l.initial.at + row_words ≤ length l.initial.image;
 }
 
 abbrev pub decreases-loop-i-then-has_room : goal.decreases-loop-i-then-has_room

@@ -1,6 +1,6 @@
 -- The first places are read and the others blank, those that are left stand from here on, and whether all of them are places is known so far.
 -- Assumes nothing.
-use Rattle.std.proofs.Common.{ℕ, ◌+◌, ◌≤◌, eqb, length, get_or, refl, ap, sym, ◌∙◌, arith, leb-true, le-leb}
+use Rattle.std.proofs.Common.{ℕ, ◌+◌, eqb, length, get_or, refl, ap, sym, ◌∙◌, arith, le-leb}
 use Rattle.filing.specs.Slots.{places}
 use Rattle.image.specs.Words.{head_words, row_words, account_words}
 use Rattle.image.specs.Reading.{account_from}

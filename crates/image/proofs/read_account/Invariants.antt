@@ -12,7 +12,7 @@ invariant-loop-i l = record {
   held : l.account.held ≡ replicate places blank;
   room : l.from + account_words ≤ length l.image;
   begins : l.initial.at ≡ l.from + head_words;
-  few : l.in_progress ≤ places
+  few : l.in_progress ≤ places;
 }
 
 abbrev pub decreases-loop-i : goal.decreases-loop-i
@@ -24,7 +24,7 @@ invariant-loop-i-then-has_room l = record {
   progress : l.account.progress ≡ l.initial.account.progress;
   room : l.from + account_words ≤ length l.image;
   begins : l.initial.at ≡ l.from + head_words + row_words;
-  few : l.in_holding ≤ places
+  few : l.in_holding ≤ places;
 }
 
 abbrev pub decreases-loop-i-then-has_room : goal.decreases-loop-i-then-has_room
