@@ -5,7 +5,7 @@ use native.Mathlib.Omega.{arith}
 use mathlib.Core.Path.{◌≡◌, refl, ap, sym, ◌∙◌}
 use mathlib.Core.Logic.{◌⊎◌, inl, inr}
 use mathlib.Core.Bool.{Bool, true, false, cond, ◌&&◌}
-use mathlib.Core.List.{List, [], ◌∷◌}
+use mathlib.Core.List.{List, ◌∷◌}
 use borrow.Author.Tests.{eqb-true, eq-eqb, le-leb, lt-leb}
 use lib.Dec.{eqb}
 use lib.ListN.{length, get_or, drop}
@@ -19,7 +19,7 @@ use Rattle.events.specs.Kinds.{amount_of, event_of}
 use Rattle.filing.specs.declared.Decision.{Decision}
 use Rattle.filing.specs.declared.Decision.TheVariants.{Undecided, Committed}
 use Rattle.filing.specs.Slots.{places}
-use Rattle.image.specs.Words.{life_word, event_word, decision_word, place_words, head_words, row_words, account_words, words_of_slot, words_of_slots, words_of}
+use Rattle.image.specs.Words.{life_word, event_word, decision_word, place_words, account_words, words_of_slot, words_of_slots, words_of}
 use Rattle.image.specs.Reading.{life_from, is_life, decision_from, is_decision, event_from, is_event, is_slot, are_slots, is_account, fields_from, account_from}
 use Rattle.image.specs.Plain.{NinePlain, EachFits, CountsPlain, KeptPlain, Word, PlainHolds}
 use Rattle.image.proofs.WrittenBack.{Parts, parts}

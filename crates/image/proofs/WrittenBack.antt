@@ -10,7 +10,6 @@ use borrow.Author.Tests.{eqb-true, leb-true}
 use lib.Dec.{eqb, leb}
 use lib.ListN.{length, get_or, take, drop, length-drop}
 use lib.Seq.{take-add, get_or-drop}
-use Rattle.rule.specs.Lists.{every}
 use Rattle.rule.specs.Rule.{Rule}
 use Rattle.rule.proofs.Lists.{and_left, and_right}
 use Rattle.events.specs.declared.Event.{Event}
