@@ -28,7 +28,7 @@ use Rattle.register.specs.declared.runs.Passed.{Passed}
 use Rattle.register.specs.Register.{fresh_by, sent_by}
 use Rattle.register.specs.Call.{Result, written_of, refused_with, wrote_as, wrote_of, after_message, after_reading, called_by}
 use Rattle.register.specs.Run.{Run, ended, length_at, passed_of, joined, first, turn_of, run_from, run_by, Alike, BufferNeverShows}
-use Rattle.register.proofs.Passed.{passed-written}
+use Rattle.register.proofs.Passing.{passed-written}
 use Rattle.register.proofs.Suits.{Suits}
 use Rattle.register.proofs.Moved.{call-moves}
 

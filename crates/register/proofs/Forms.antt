@@ -3,7 +3,7 @@
 use native.Mathlib.Omega.{arith}
 use mathlib.Core.Path.{refl}
 use Rattle.register.specs.Forms.{FormsHold}
-use Rattle.register.proofs.Passed.{passed-skips}
+use Rattle.register.proofs.Passing.{passed-skips}
 
 pub forms-hold : FormsHold
 forms-hold =

@@ -1,6 +1,6 @@
 pub mod ReadAs
 pub mod Whole
-pub mod Passed
+pub mod Passing
 pub mod Suits
 pub mod Standing
 pub mod Sending

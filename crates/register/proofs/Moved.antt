@@ -22,7 +22,7 @@ use Rattle.register.specs.declared.runs.Passed.{Passed}
 use Rattle.register.specs.Call.{Result, called_by}
 use Rattle.register.specs.Run.{length_at, passed_of}
 use Rattle.register.proofs.Whole.{some_bytes}
-use Rattle.register.proofs.Passed.{passed-stops, passed-skips}
+use Rattle.register.proofs.Passing.{passed-stops, passed-skips}
 use Rattle.register.proofs.Suits.{Suits}
 use Rattle.register.proofs.Standing.{Stands, Refusable, reading-tells}
 use Rattle.register.proofs.Sending.{taking, taken-bytes}

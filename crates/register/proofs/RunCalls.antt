@@ -24,7 +24,7 @@ use Rattle.register.specs.Call.{Result, called_by}
 use Rattle.register.specs.Sequence.{Input, Exchange, ByteStrings, exchanges}
 use Rattle.register.specs.Run.{Run, ended as ended-run, numbers_of, length_at, passed_of, joined, first, run_from, run_by}
 use Rattle.register.specs.RunCalls.{Calls, ended, stopped, skipped, taken, refused_among, entries_among, Sums, IsCalls, RunIsItsCalls, RunDemand3}
-use Rattle.register.proofs.Passed.{passed-stops, passed-skips}
+use Rattle.register.proofs.Passing.{passed-stops, passed-skips}
 use Rattle.register.proofs.Suits.{Suits}
 use Rattle.register.proofs.Standing.{Stands}
 use Rattle.register.proofs.Moved.{Tells, Moved, call-moves, call-tells}

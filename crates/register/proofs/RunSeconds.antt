@@ -29,7 +29,7 @@ use Rattle.register.proofs.OtherSecond.{number-before, empty-same}
 use Rattle.register.proofs.Seconds.{SameRegister, SameResult, call_same, fresh-same}
 use Rattle.register.proofs.Standing.{Stands}
 use Rattle.register.proofs.Moved.{Tells, call-moves, call-tells}
-use Rattle.register.proofs.Passed.{passed-stops, passed-skips, passed-written}
+use Rattle.register.proofs.Passing.{passed-stops, passed-skips, passed-written}
 use Rattle.register.proofs.WholeRuns.{bound-never-matters}
 
 -- entries and then others

@@ -43,7 +43,7 @@ use Rattle.register.specs.Run.{length_at, passed_of, one, added}
 use Rattle.register.proofs.Suits.{Suits}
 use Rattle.register.proofs.ReadAs.{read_as, account-read}
 use Rattle.register.proofs.Standing.{reading-tells}
-use Rattle.register.proofs.Passed.{passed-skips}
+use Rattle.register.proofs.Passing.{passed-skips}
 use Rattle.register.proofs.Sending.{Sending, refused, taken, sending, step-bytes}
 use Rattle.register.proofs.Underway as underway
 use Rattle.register.proofs.Underway.{Underway, Turn, countable, less-left}

@@ -31,7 +31,7 @@ use Rattle.register.specs.Run.{length_at, passed_of}
 use Rattle.register.specs.RunCalls.{Calls, ended, stopped, skipped, taken, refusals, refused_among}
 use Rattle.register.specs.Whole.{Whole, with_amount, without_amount}
 use Rattle.register.proofs.Suits.{Suits, first-suits}
-use Rattle.register.proofs.Passed.{passed-stops, passed-skips}
+use Rattle.register.proofs.Passing.{passed-stops, passed-skips}
 use Rattle.register.proofs.Standing.{Stands, Refusable}
 use Rattle.register.proofs.Sending.{taken-bytes}
 use Rattle.register.proofs.Calling as call

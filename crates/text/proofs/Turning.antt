@@ -27,7 +27,7 @@ use Rattle.register.specs.Register.{not_sent}
 use Rattle.register.specs.First.{sent_of}
 use Rattle.register.specs.Run.{length_at, passed_of}
 use Rattle.register.proofs.Whole.{some_bytes}
-use Rattle.register.proofs.Passed.{passed-stops, passed-skips}
+use Rattle.register.proofs.Passing.{passed-stops, passed-skips}
 use Rattle.register.proofs.Standing.{Stands, Refusable, reading-tells}
 use Rattle.register.proofs.Sending as send
 use Rattle.register.proofs.Sending.{Sending, sending}
