@@ -5,7 +5,6 @@ use mathlib.Core.Path.{◌≡◌, refl, ap, ap₂}
 use native.Mathlib.Omega.{arith}
 use Rattle.account.specs.declared.Answer.TheVariants as Answer'
 use Rattle.account.specs.declared.Outlook.TheVariants as Outlook'
-use Rattle.events.specs.declared.State.{State}
 use Rattle.account.specs.Steps.{Shown}
 use Rattle.account.specs.Answers.{AnswersApart, OutlooksApart}
 

@@ -17,7 +17,7 @@ use Rattle.rule.proofs.InOrder.{clauses-order}
 use Rattle.events.specs.declared.Event.{Event}
 use Rattle.events.specs.declared.State.{State}
 use Rattle.filing.specs.declared.Slot.{Slot}
-use Rattle.filing.specs.Slots.{places, blank, is_blank, slot_of}
+use Rattle.filing.specs.Slots.{is_blank, slot_of}
 use Rattle.account.specs.declared.Account.{Account}
 use Rattle.account.specs.Places.{used, lists_of}
 use Rattle.account.specs.InOrder.{in_order_by}

@@ -1,7 +1,7 @@
 -- By the tests of a step and of the question, one after the other; the state of an outcome by its number's bits.
 -- Assumes nothing.
 use Prim.Native.Nat.{ℕ, ◌^◌}
-use mathlib.Core.Path.{◌≡◌, refl, ap₂}
+use mathlib.Core.Path.{refl, ap₂}
 use mathlib.Core.List.{List, map}
 use borrow.Author.Tests.{lt-ltb, le-ltb}
 use lib.ListN.{take}
