@@ -2,7 +2,7 @@
  * Reads messages from standard input, runs them, and prints the four numbers and each entry in hex.
  *
  * From the root of the repository:
- *   rt staticlib register
+ *   tools/build register
  *   gcc -std=c99 -O2 -Wall -Wextra -pedantic -Iinclude examples/caller.c target/staticlib/libregister.a -o target/caller
  *   samples/messages encode < samples/first.lines | target/caller
  */

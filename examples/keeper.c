@@ -3,7 +3,7 @@
  * of their entries; at the end, the state of each account with no undecided event applied.
  *
  * From the root of the repository:
- *   rt staticlib live
+ *   tools/build live
  *   gcc -std=c99 -O2 -Wall -Wextra -pedantic -Iinclude examples/keeper.c target/staticlib/liblive.a -o target/keeper
  *   samples/messages encode < samples/first.lines | target/keeper
  *

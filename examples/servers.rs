@@ -2,7 +2,7 @@
 //! none is left. What is printed is what `examples/keeper.c` prints.
 //!
 //! From the root of the repository:
-//!   rt staticlib live
+//!   tools/build live
 //!   cargo build --release --offline --manifest-path bindings/rust/Cargo.toml --example servers
 //!   samples/messages encode < samples/first.lines | bindings/rust/target/release/examples/servers
 //!

@@ -2,8 +2,8 @@
  * Nacozteya, the register of recalibration events, for callers in C (C99).
  *
  * The libraries are target/staticlib/libregister.a, which has nacozteya_run, and
- * target/staticlib/liblive.a, which has the calls on an image and the line of an entry; `rt staticlib register` and
- * `rt staticlib live` make them for x86-64 Linux. Each function below is proved against a definition:
+ * target/staticlib/liblive.a, which has the calls on an image and the line of an entry; `tools/build register` and
+ * `tools/build live` make them for x86-64 Linux. Each function below is proved against a definition:
  * the run against `export_of` in crates/register/specs/First.antt (contract in
  * crates/register/src/export.rt), the others against `exported_call_of`, `exported_look_of` and
  * `exported_line_of` in crates/live/specs/First.antt (contracts in crates/live/src/export.rt). Nothing checks these

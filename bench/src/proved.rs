@@ -1,6 +1,6 @@
 //! The proved register, linked as static libraries where the feature `proved` is on.
 //!
-//! `rt staticlib register` gives `target/staticlib/libregister.a` with the run, `rt staticlib live`
+//! `tools/build register` gives `target/staticlib/libregister.a` with the run, `tools/build live`
 //! gives `target/staticlib/liblive.a` with the calls on an image; build with
 //! `cargo build --release --features proved` (`build.rs` says where the libraries are).
 //! The exported functions are declared here and nowhere else.

@@ -1,4 +1,4 @@
-//! Where the static library is that `rt staticlib live` makes; a new one is linked anew.
+//! Where the static library is that `tools/build live` makes; a new one is linked anew.
 
 fn main() {
     let folder = concat!(env!("CARGO_MANIFEST_DIR"), "/../../target/staticlib");

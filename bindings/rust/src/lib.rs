@@ -1,7 +1,7 @@
 //! The register of recalibration events, proved, for Rust: a safe and small wrapper of the calls in
 //! `include/nacozteya.h`, with the standard library alone.
 //!
-//! The library that it links is `target/staticlib/liblive.a`, which `rt staticlib live` makes for
+//! The library that it links is `target/staticlib/liblive.a`, which `tools/build live` makes for
 //! x86-64 Linux. What the calls do is written down in `docs/REGISTER.md`; that they do it is proved.
 //!
 //! ```
