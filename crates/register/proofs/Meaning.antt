@@ -1,23 +1,19 @@
 -- By the definitions: each is the other. Two seconds have four bytes behind the same seven, before the same rest.
 -- Assumes nothing.
 use Prim.Native.Nat.{ℕ, ◌+◌, ◌≤◌}
-use native.Mathlib.Omega.{arith}
 use mathlib.Core.Path.{◌≡◌, refl, ap, sym, ◌∙◌}
 use mathlib.Core.Logic.{◌⊎◌, inl, inr}
 use mathlib.Core.List.{List, [], ◌∷◌, ◌++◌, append_assoc}
 use lib.ListN.{length, get_or, take, drop, length-append}
 use lib.Seq.{take_at, drop_at}
-use Rattle.rule.specs.Rule.{Rule}
-use Rattle.events.specs.declared.Event.{Event}
-use Rattle.events.specs.declared.State.{State}
 use Rattle.filing.specs.declared.Entry.{Entry}
 use Rattle.entry.specs.Bytes.{bytes_of_entry}
 use Rattle.register.specs.Sequence.{Input, Exchange}
 use Rattle.register.specs.Run.{Run}
 use Rattle.register.specs.Whole.{Whole, with_amount, without_amount}
 use Rattle.register.specs.Seconds.{OtherSecond, SameMessage, OtherSeconds, none, one_more, SameEntries, nothing_written, entry, SameExchange, SameExchanges, none_seen, one_seen}
-use Rattle.register.specs.RunSeconds.{SameMessages, same_messages, SameRun}
-use Rattle.register.specs.Meaning.{SecondMeans, SequencesMean, EntriesMean, RunsMean, FiledMeans, PastMeans, MeaningHolds}
+use Rattle.register.specs.RunSeconds.{SameMessages, same_messages}
+use Rattle.register.specs.Meaning.{SecondMeans, SequencesMean, EntriesMean, RunsMean, MeaningHolds}
 use Rattle.register.proofs.OtherSecond.{whole-strings}
 
 -- ---- the second

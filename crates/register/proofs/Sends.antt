@@ -3,7 +3,7 @@
 -- Assumes nothing.
 use Prim.Native.Nat.{ℕ, ◌≤◌}
 use mathlib.Core.Path.{◌≡◌, refl, sym, ◌∙◌, ap}
-use mathlib.Core.List.{List, [], ◌∷◌, ◌++◌, map}
+use mathlib.Core.List.{List, ◌++◌, map}
 use mathlib.Core.Option.{none}
 use native.Mathlib.Omega.{arith}
 use borrow.Author.Tests.{le-ltb}
@@ -12,7 +12,7 @@ use lib.Seq.{take_at}
 use Rattle.rule.specs.Rule.{Rule}
 use Rattle.events.specs.declared.Event.{Event}
 use Rattle.events.specs.declared.State.{State}
-use Rattle.filing.specs.Entries.{RuleEntry, entry_of, entries_of}
+use Rattle.filing.specs.Entries.{entries_of}
 use Rattle.account.specs.Steps.{refusal_in}
 use Rattle.message.specs.declared.Message.{Message}
 use Rattle.message.specs.Bytes.{heading_of, bytes_of_message, length_of_message}

@@ -33,7 +33,7 @@ use Rattle.entry.specs.Answers.{longest_call}
 use Rattle.register.specs.declared.Register.{Register}
 use Rattle.register.specs.declared.Reply.{Reply}
 use Rattle.register.specs.declared.Sent.{Sent}
-use Rattle.register.specs.declared.Reply.TheVariants.{Refused, Taken}
+use Rattle.register.specs.declared.Reply.TheVariants.{Refused}
 use Rattle.register.specs.declared.runs.Ran.{Ran}
 use Rattle.register.specs.declared.runs.Passed.{Passed}
 use Rattle.register.specs.Register.{account_at, with_account, rule_message, sent_in, sent_as, sent_by}
