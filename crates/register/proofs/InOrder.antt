@@ -72,9 +72,12 @@ module _ (R : rule.Rule State Event ℕ) (k : Suits R) where
   set-order (x ∷ accounts) (suc i) a h all (suc j) = set-order accounts i a h (λ n. all (suc n)) j
 
   call_kept : {bytes buffer : List ℕ} {x : Result} (r : Register) → Calling R r bytes buffer x → InOrder r → InOrder x.register
-  call_kept r (refused n why) all = all
-  call_kept r (taken m consumed t) all =
-      set-order r.accounts (heading_of m).account (account_of (taking R r m).account) (order-account R (taking R r m).account (taken-order r m t.free)) all
+  call_kept {bytes = bytes} {buffer = buffer} {x = x} r c all = by r x c all
+    where
+      by : (r : Register) (x : Result) → Calling R r bytes buffer x → InOrder r → InOrder x.register
+      by r x (refused n why) all = all
+      by r x (taken m consumed t) all =
+          set-order r.accounts (heading_of m).account (account_of (taking R r m).account) (order-account R (taking R r m).account (taken-order r m t.free)) all
 
   calls-kept : (inputs : List Input) (r : Register) → InOrder r → InOrder (after R r inputs)
   calls-kept [] r all = all
