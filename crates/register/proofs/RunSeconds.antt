@@ -119,7 +119,7 @@ module _ (R : Rule State Event ℕ) (k : Suits R) where
             let whole = passes bytes called.reply (call-tells R k r bytes buffer) q in
             rw left-same
             (h called.register called'.register (drop p.consumed bytes) (drop p.consumed bytes') (drop p.written called.buffer) both.registers
-            (rw whole.0 (behind (length_at bytes) whole.1.whole whole.1.All-there)))
+            (rw whole.0 (behind (length_at bytes) whole.1.whole whole.1.all_there)))
 
     turn-same : SameRun (turn_of R f r bytes buffer) (turn_of R f r' bytes' buffer)
     unfolding after called called' p
