@@ -22,6 +22,7 @@ pub mod Underway
 pub mod WholeRuns
 pub mod Alike
 pub mod Turned
+pub mod Reached
 pub mod Writes
 pub mod Votes
 pub mod Accounts
