@@ -11,7 +11,7 @@ use borrow.Author.Tests.{le-leb, lt-ltb, ltb-true, ltb-false}
 use lib.Dec.{leb, ltb, lit<}
 use lib.ListN.{get_or}
 use Rattle.rule.specs.Lists.{every}
-use Rattle.text.specs.Text.{decimal_in, line_of, line_as}
+use Rattle.text.specs.Text.{decimal_in, line_as}
 use Rattle.text.specs.Decimal.{value_from, Decimal, Decimals, LongestLineIs}
 use Rattle.entry.proofs.Booleans.{both}
 

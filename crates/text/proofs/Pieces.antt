@@ -1,7 +1,7 @@
 -- The pieces of the program's text, put one behind the other: the beginning, a refusal, the last line, the lines of a call's entries. The lines are
 -- put in a loop: what is put are the lines of the entries passed.
 -- Assumes nothing.
-use Prim.Native.Nat.{ℕ, ◌+◌, ◌*◌, ◌≤◌, ◌<◌, min}
+use Prim.Native.Nat.{ℕ, ◌+◌, ◌*◌, ◌≤◌, ◌<◌}
 use native.Mathlib.Nat.{zero-add}
 use native.Mathlib.Numerals.{add-one}
 use native.Mathlib.Omega.{arith}
@@ -11,10 +11,8 @@ use borrow.Author.Tests.{lt-ltb, le-ltb}
 use lib.ListN.{length, get_or, take, drop, length-append}
 use lib.Seq.{sets, take-suc, take-append_seam, drop-append_seam}
 use Rattle.filing.specs.declared.Entry.{Entry}
-use Rattle.filing.specs.declared.Entries.{Entries}
 use Rattle.layout.proofs.Stores.{sets_more, laid-over}
-use Rattle.entry.specs.Bytes.{list_of}
-use Rattle.entry.proofs.Stored.{no_entry, all-places}
+use Rattle.entry.proofs.Stored.{no_entry}
 use Rattle.register.specs.declared.Register.{Register}
 use Rattle.register.specs.First.{fresh_register}
 use Rattle.text.specs.declared.program.Served.{Served}
@@ -22,7 +20,7 @@ use Rattle.text.specs.Text.{decimal, spaced, line_of, lines_of, longest_line, Pu
 use Rattle.text.specs.Quoted.{quoted}
 use Rattle.text.specs.Output.{longest_input, first_line, too_long, refused_line, last_line}
 use Rattle.text.specs.Program.{longest_text, begin_text, begin_of, finish_text, TextAtTheBeginning}
-use Rattle.text.proofs.Texts.{put-nothing, put-append, put-room, spaced-append}
+use Rattle.text.proofs.Texts.{put-append, put-room, spaced-append}
 
 -- text from the beginning of a buffer on ends at its length
 pub put-length : (text : List ℕ) (most next : ℕ) (l l₁ : List ℕ) → Put text 0 most l next l₁ → next ≡ length text
@@ -83,9 +81,6 @@ module _ (s : Served) (input : List ℕ) where
   pub finishes : (next : ℕ) (l l₁ : List ℕ) → length input ≤ longest_input → Put (last_line s.met s.refused) 0 26 l next l₁ → Put (finish_text s input) 0 26 l next l₁
   finishes next l l₁ h p = rw (le-ltb longest_input (length input) h) p
 
-  pub finishes-long : (l : List ℕ) → longest_input < length input → Put (finish_text s input) 0 26 l 0 l
-  finishes-long l h = rw (lt-ltb longest_input (length input) h) (put-room [] 0 0 26 0 l l (omega arith) (put-nothing 0 l))
-
 -- ---- the lines of a call
 
 lines-append : (account : ℕ) (xs ys : List Entry) → lines_of account (xs ++ ys) ≡ lines_of account xs ++ lines_of account ys
@@ -126,11 +121,3 @@ module _ (places : List Entry) (account count : ℕ) (before after : List ℕ) (
         place = rw more n;
         stored = rw more (sets_more done line before after after' 0 at (sym u.place) u.stored (rw (sym (zero-add at)) at p.stored));
       }
-
-pub lined-all : (entries : Entries) (account count : ℕ) (before after : List ℕ) (at i : ℕ) → length entries.at ≡ 17 → count ≡ min entries.count 17
-    → Lined entries.at account count before after at i → count ≤ i → Put (lines_of account (list_of entries)) 0 longest_text before at after
-lined-all entries account count before after at i size c u h =
-    let all : i ≡ min entries.count 17 = omega (arith, u.passed) in
-    let these : take i entries.at ≡ list_of entries = rw all (all-places entries.at entries.count size) in
-    rw (← these)
-    (record { place = u.place ∙ sym (zero-add (length (lines_of account (take i entries.at)))); within = omega (arith, u.room); stored = u.stored })

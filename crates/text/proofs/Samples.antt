@@ -18,7 +18,7 @@ use Rattle.layout.specs.Number.{number_at}
 use Rattle.message.specs.Answers.{read_of}
 use Rattle.message.specs.Bytes.{messages, message_by}
 use Rattle.register.specs.Register.{fresh_by, sent_by}
-use Rattle.text.specs.Text.{decimal_in, line_of, lines_of, line_as}
+use Rattle.text.specs.Text.{decimal_in, lines_of, line_as}
 use Rattle.text.specs.Quoted.{quoted}
 use Rattle.text.specs.Output.{first_line, refused_line, last_line, turn_at, turns_from, output_of}
 use Rattle.text.specs.Samples.{printed, SamplesHold}

@@ -9,7 +9,7 @@ use mathlib.Core.List.{List, [], ◌∷◌, ◌++◌, append-nil, append_assoc}
 use borrow.Author.Tests.{lt-ltb, le-ltb}
 use lib.Dec.{lit<}
 use lib.ListN.{length, get_or, take, replicate, length-append}
-use lib.Seq.{sets, take-suc, take-length, length-take-le, take_at}
+use lib.Seq.{sets, take-suc, length-take-le, take_at}
 use Rattle.layout.specs.Number.{bytes_of}
 use Rattle.layout.proofs.Stores.{sets_more}
 use Rattle.layout.proofs.Numbers.{bytes_of-one}
@@ -36,10 +36,6 @@ put-room xs at m n next l l₁ h p = record { place = p.place; within = omega (a
 -- as much room as it takes
 pub put-within : (xs : List ℕ) (at m n next : ℕ) (l l₁ : List ℕ) → length xs ≤ n → Put xs at m l next l₁ → Put xs at n l next l₁
 put-within xs at m n next l l₁ h p = record { place = p.place; within = omega (arith, p.place); stored = p.stored }
-
--- nothing, where something might be
-pub put-none : (at n : ℕ) (l : List ℕ) → Put [] at n l at l
-put-none at n l = put-room [] at 0 n at l l (omega arith) (put-nothing at l)
 
 pub put_byte : (byte at : ℕ) (l l₁ : List ℕ) → byte < 256 → l₁ ≡ sets l at (bytes_of 1 byte) → Put (byte ∷ []) at 1 l (at + 1) l₁
 put_byte byte at l l₁ h e = record { place = refl; within = omega arith; stored = rw (bytes_of-one byte h) at e }
@@ -76,11 +72,6 @@ pub letter-more : (word : List ℕ) (i at : ℕ) (l l₁ l₂ : List ℕ) → i 
 letter-more word i at l l₁ l₂ h b e₁ e₂ =
     rw (add-one, take-suc word i 0 h)
     (sets_more (take i word) (get_or word i 0 ∷ []) l l₁ l₂ at i (length-take-le i word (omega arith)) e₁ (rw (bytes_of-one (get_or word i 0) b) at e₂))
-
--- a whole word
-pub word-put : (word : List ℕ) (i at : ℕ) (l l₁ : List ℕ) → i ≡ length word → l₁ ≡ sets l at (take i word) → Put word at (length word) l (at + i) l₁
-word-put word i at l l₁ h e =
-    record { place = rw h; within = omega arith; stored = rw (← take-length word, ← h) e }
 
 -- ---- fields with a space before each
 

@@ -7,8 +7,7 @@ use Rattle.text.proofs.line.put_letters.Goals as goal
 pub loop-i-preserved : goal.loop-i-preserved
 loop-i-preserved c =
     let a = c.args in
-    let v = c.loop-i in
-    (
+    let v = c.loop-i in (
       omega arith,
       letter-more a.letters.now v.i a.at a.buffer.now v.buffer c.put1.new.buffer c.loop-i-test.true (c.type_inv.letters v.i).fits v.invariant.1 c.put1.ensures,
     )

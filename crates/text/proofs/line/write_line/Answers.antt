@@ -1,6 +1,5 @@
 -- `text::line::write_line` meets its contract: the line fits.
 -- Assumes nothing.
-use Rattle.std.proofs.Common.{arith}
 use Rattle.text.proofs.Lines.{write-small, write-line}
 use Rattle.text.proofs.line.write_line.Goals as goal
 

@@ -1,7 +1,7 @@
 -- `text::turns::put_lines` meets its contract: each line is put behind those of the entries passed.
 -- Assumes nothing.
-use Rattle.std.proofs.Common.{◌≡◌, ◌<◌, length, arith}
-use Rattle.text.proofs.Pieces.{lined-start, lined-more, lined-all}
+use Rattle.std.proofs.Common.{◌<◌, length, arith}
+use Rattle.text.proofs.Pieces.{lined-start, lined-more}
 use Rattle.text.proofs.turns.put_lines.Goals as goal
 
 pub loop-i-init : goal.loop-i-init
