@@ -31,10 +31,10 @@ use Rattle.register.specs.declared.Reply.TheVariants.{Refused}
 use Rattle.register.specs.declared.runs.Ran.{Ran}
 use Rattle.register.specs.declared.runs.Passed.{Passed}
 use Rattle.register.specs.Register.{account_at, rule_message}
-use Rattle.register.specs.Run.{Run, passed_of, one, added, run_by}
+use Rattle.register.specs.Run.{passed_of, one, added, run_by}
 use Rattle.register.specs.Helpers.{Filing, reading_number, roomed, filed_of, Fitting, Countable}
 use Rattle.register.proofs.Suits.{first-suits}
-use Rattle.register.proofs.Underway.{Underway, Turn, countable, stops-there, goes_on, less-left}
+use Rattle.register.proofs.Underway.{Underway, countable, stops-there, goes_on, less-left}
 use Rattle.register.proofs.Votes.{vote-filed}
 use Rattle.register.proofs.Turned.{Looked, Goes, turn-refused, named-low, turn-fits, message-goes}
 
