@@ -30,7 +30,7 @@ use Rattle.entry.specs.Answers.{longest_call}
 use Rattle.image.specs.Words.{stored_in}
 use Rattle.image.specs.Reading.{account_from}
 use Rattle.register.specs.declared.Reply.{Reply}
-use Rattle.register.specs.declared.Reply.TheVariants.{Refused, Taken}
+use Rattle.register.specs.declared.Reply.TheVariants.{Refused}
 use Rattle.register.specs.Register.{accounts_of_register, nowhere, rule_message, sent_as, sent_by}
 use Rattle.register.specs.Call.{Result, refused_with, wrote_of, after_message, called_by}
 use Rattle.register.specs.Helpers.{reading_number, Filing, filed_of, Fitting}

@@ -9,13 +9,11 @@ use mathlib.Core.List.{List, map}
 use lib.ListN.{length, take, drop}
 use lib.Seq.{get_or-set_same}
 use Rattle.rule.specs.Rule as rule
-use Rattle.rule.specs.Call as Rule-Call
 use Rattle.rule.specs.InOrder.{is_in_order}
 use Rattle.events.specs.declared.Event.{Event}
 use Rattle.events.specs.declared.State.{State}
 use Rattle.filing.specs.Entries.{entry_of}
 use Rattle.account.specs.declared.Account.{Account}
-use Rattle.account.specs.declared.Answer.TheVariants as Answer'
 use Rattle.account.specs.Places.{RuleAccount, account_of}
 use Rattle.account.specs.InOrder.{in_order_by}
 use Rattle.account.specs.Steps.{refused_by, step_by}

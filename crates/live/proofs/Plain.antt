@@ -1,18 +1,17 @@
 -- By the ways out of a call on an image, and by computing.
 -- Assumes nothing.
-use Prim.Native.Nat.{ℕ, ◌*◌, ◌≤◌, ◌<◌}
+use Prim.Native.Nat.{ℕ, ◌*◌, ◌≤◌}
 use native.Mathlib.Omega.{arith}
 use mathlib.Core.Path.{◌≡◌, refl, sym, ◌∙◌}
-use mathlib.Core.List.{List, ◌∷◌, ◌++◌}
+use mathlib.Core.List.{List, ◌++◌}
 use borrow.Author.Tests.{lt-ltb, le-ltb}
-use lib.ListN.{length, take, drop}
+use lib.ListN.{length}
 use lib.Seq.{take_at, drop_at}
 use Rattle.rule.specs.Rule.{Rule}
 use Rattle.events.specs.declared.Event.{Event}
 use Rattle.events.specs.declared.State.{State}
 use Rattle.account.specs.declared.Answer.TheVariants as Answer'
-use Rattle.account.specs.declared.Outlook.TheVariants as Outlook'
-use Rattle.account.specs.Steps.{step_by, outlook_by}
+use Rattle.account.specs.Steps.{step_by}
 use Rattle.layout.specs.Fields.{last_account}
 use Rattle.message.specs.declared.Message.{Message}
 use Rattle.message.specs.declared.Reading.TheVariants as Reading'
@@ -21,7 +20,7 @@ use Rattle.message.specs.Answers.{read_of}
 use Rattle.image.specs.Reading.{account_from}
 use Rattle.register.specs.declared.Reply.TheVariants.{Refused}
 use Rattle.register.specs.Register.{accounts_of_register, rule_message, asked_by}
-use Rattle.live.specs.Registers.{word_at, words_of_accounts, accounts_from}
+use Rattle.live.specs.Registers.{word_at, words_of_accounts}
 use Rattle.live.specs.Live.{live_by, look_by}
 use Rattle.live.specs.Keeping.{own_words}
 use Rattle.live.specs.Plain.{RegisterPlain, CallPlain, LookPlain, PlainHolds}

@@ -24,7 +24,7 @@ use Rattle.image.specs.Reading.{slot_from, is_slot, slots_from, are_slots, is_ac
 use Rattle.register.specs.Register.{sent_by, asked_by}
 use Rattle.register.specs.Call.{after_message, called_by}
 use Rattle.text.specs.Quoted.{quoted}
-use Rattle.text.specs.Text.{decimal_in, line_of, write_line_of, line_as}
+use Rattle.text.specs.Text.{decimal_in, write_line_of, line_as}
 use Rattle.live.specs.Registers.{accounts_from}
 use Rattle.live.specs.Live.{live_by, look_by}
 use Rattle.live.specs.Lines.{line_of_entry}

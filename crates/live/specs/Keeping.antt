@@ -1,7 +1,7 @@
 -- A register that is kept as an image over many calls (docs/REGISTER.md, 15.6 and 15.7): every call is the register's own, and goes by the words of the account that is named.
 -- Assumes nothing.
 use Rattle.std.specs.Prelude.{ℕ, ◌+◌, ◌*◌, ◌≤◌, ◌<◌, ◌≡◌, List, [], ◌∷◌, length, take, drop, replicate}
-use Rattle.std.proofs.Math.Option.{none, some}
+use Rattle.std.proofs.Math.Option.{some}
 use Rattle.rule.specs.Rule.{Rule}
 use Rattle.events.specs.declared.Event.{Event}
 use Rattle.events.specs.declared.State.{State}

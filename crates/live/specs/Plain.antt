@@ -1,7 +1,7 @@
 -- The register of an image, a call on an image, the outcome question of one, and what a caller from outside gets, said a second time and over every content: by the account whose words
 -- begin at 84 times its number, and for any number of places that are lent (docs/REGISTER.md, 15.1 and 15.6 to 15.9).
 -- Assumes nothing.
-use Rattle.std.specs.Prelude.{ℕ, ◌+◌, ◌*◌, ◌≤◌, ◌<◌, ◌≡◌, ◌↔◌, List, [], ◌∷◌, ◌++◌, length, take, drop, get_or}
+use Rattle.std.specs.Prelude.{ℕ, ◌*◌, ◌≤◌, ◌<◌, ◌≡◌, ◌↔◌, List, [], ◌∷◌, ◌++◌, length, take, drop, get_or}
 use Rattle.rule.specs.Rule.{Rule}
 use Rattle.events.specs.declared.Event.{Event}
 use Rattle.events.specs.declared.Life.TheVariants.{New, Opened, Closed}
