@@ -1,0 +1,10 @@
+-- The letters are put one after the other: the measure is how many are left.
+-- Assumes nothing.
+use Rattle.std.proofs.Common.{◌-◌, ◌≤◌, length}
+use Rattle.probe.proofs.page.word.Given as goal
+
+abbrev pub invariant-loop-i : goal.invariant-loop-i
+invariant-loop-i l = l.i ≤ length l.word
+
+abbrev pub decreases-loop-i : goal.decreases-loop-i
+decreases-loop-i l = length l.word - l.i

@@ -1,0 +1,10 @@
+-- The places are shown one after the other: the measure is how many are left.
+-- Assumes nothing.
+use Rattle.std.proofs.Common.{◌-◌, ◌≤◌}
+use Rattle.probe.proofs.show.put_places.Given as goal
+
+abbrev pub invariant-loop-place : goal.invariant-loop-place
+invariant-loop-place l = l.place ≤ 16
+
+abbrev pub decreases-loop-place : goal.decreases-loop-place
+decreases-loop-place l = 16 - l.place
