@@ -1,0 +1,46 @@
+-- By computing, refusal by refusal.
+-- Assumes nothing.
+use Rattle.std.proofs.Common.{◌≡◌, ◌<◌, ◌≤◌, arith, refl}
+use Rattle.refusal.specs.declared.Refusal.{Refusal}
+use Rattle.refusal.specs.declared.Refusal.TheVariants.{Torn, UnknownKind, UnknownAccount, NoRoom, NotInOrder, KnownTransaction, AllHeld, UnknownTransaction, HeldTransaction, CommittedAlready, CommittedBefore, NoSuchOutcome}
+use Rattle.refusal.specs.Numbers.{number_of, numbered}
+use Rattle.refusal.specs.Literal.{LiteralHolds}
+
+told : (r : Refusal) → numbered (number_of r) ≡ r
+told Torn = refl
+told UnknownKind = refl
+told UnknownAccount = refl
+told NoRoom = refl
+told NotInOrder = refl
+told KnownTransaction = refl
+told AllHeld = refl
+told UnknownTransaction = refl
+told HeldTransaction = refl
+told CommittedAlready = refl
+told CommittedBefore = refl
+told NoSuchOutcome = refl
+
+none_else : (r : Refusal) → (0 < number_of r) × (number_of r ≤ 12)
+none_else Torn = (omega arith, omega arith)
+none_else UnknownKind = (omega arith, omega arith)
+none_else UnknownAccount = (omega arith, omega arith)
+none_else NoRoom = (omega arith, omega arith)
+none_else NotInOrder = (omega arith, omega arith)
+none_else KnownTransaction = (omega arith, omega arith)
+none_else AllHeld = (omega arith, omega arith)
+none_else UnknownTransaction = (omega arith, omega arith)
+none_else HeldTransaction = (omega arith, omega arith)
+none_else CommittedAlready = (omega arith, omega arith)
+none_else CommittedBefore = (omega arith, omega arith)
+none_else NoSuchOutcome = (omega arith, omega arith)
+
+pub literal-holds : LiteralHolds
+literal-holds =
+    record {
+      of_messages = refl;
+      of_requests = refl;
+      of_decisions = refl;
+      of_questions = refl;
+      told = told;
+      none_else = none_else;
+    }
