@@ -128,6 +128,10 @@ stored-table (Withdraw a) s h = refl
 stored-table (Deposit a) s h = rw (le-leb (s.balance + a) most h)
 stored-table Close s h = refl
 
+-- so the effect is, where the guard holds,
+pub stored-effect : (e : Event) (s : State) → s.balance ≤ most → guard_of e s ≡ true → stored_effect e s ≡ effect_of e s
+stored-effect e s h g = stored-table e s (effect-fits e s h g) ∙ sym (effect-table e s g)
+
 -- and so is a range in which the guard holds everywhere
 module _ (e : Event) (x : Range) (h : x.lowest ≤ x.highest) (k : x.highest ≤ most) (all : every_in e x ≡ true) where
   pub stored-after : stored_after e x ≡ range_after e x
