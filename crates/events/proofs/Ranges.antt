@@ -19,16 +19,9 @@ use Rattle.events.specs.declared.condition.Bound.{Bound}
 use Rattle.events.specs.declared.condition.Bound.TheVariants.{AtLeast, AtMost}
 use Rattle.events.specs.declared.condition.Condition.{Condition}
 use Rattle.events.specs.Events.{is_new, is_opened, is_closed}
-use Rattle.events.specs.Condition.{chosen, within, takes}
-use Rattle.events.specs.Range.{opened_balances, lowest_of, range_of, range_of_one, joined}
+use Rattle.events.specs.Condition.{within, takes}
+use Rattle.events.specs.Range.{opened_balances, lowest_of, range_of, range_of_one, joined, alone, occurs}
 use Rattle.events.proofs.Guards.{alike, Plain}
-
--- no life but this one occurs in a range; this one does
-abbrev pub alone : Life → Range → Bool
-alone l x = chosen l (not (x.opened || x.closed)) (not (x.new || x.closed)) (not (x.new || x.opened))
-
-abbrev pub occurs : Life → Range → Bool
-occurs l x = chosen l x.new x.opened x.closed
 
 -- a condition in every state of a range, and in some
 abbrev pub all_of : Condition → Range → Bool

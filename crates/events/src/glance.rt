@@ -1,7 +1,6 @@
 // What weighing knows of the outcomes: the range of one, of those after an event, and of two lots together; and what it tells of an event's guard in all of them.
-ghost use Rattle.std.specs.Prelude.{◌≡◌, not, ◌||◌};
-ghost use Rattle.events.specs.Condition.{chosen};
-ghost use Rattle.events.specs.Range.{range_of_one, stored_after, stored_perhaps, every_in, some_in};
+ghost use Rattle.std.specs.Prelude.{◌≡◌};
+ghost use Rattle.events.specs.Range.{range_of_one, alone, occurs, stored_after, stored_perhaps, every_in, some_in};
 
 use crate::condition::Condition;
 use crate::{Event, Life, Range, State, more};
@@ -24,7 +23,7 @@ impl Range {
 
     // Whether this life occurs.
     fn has(self, life: Life) -> bool
-        ensures { result ≡ chosen life self.new self.opened self.closed }
+        ensures { result ≡ occurs life self }
     {
         match life {
             Life::New => self.new,
@@ -35,7 +34,7 @@ impl Range {
 
     // Whether no life occurs but this one.
     fn has_only(self, life: Life) -> bool
-        ensures { result ≡ chosen life (not (self.opened || self.closed)) (not (self.new || self.closed)) (not (self.new || self.opened)) }
+        ensures { result ≡ alone life self }
     {
         match life {
             Life::New => !(self.opened | self.closed),
