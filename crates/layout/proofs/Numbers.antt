@@ -118,3 +118,9 @@ pub number_at-fits : (width at : ℕ) (bytes : List ℕ) → AreBytes bytes → 
 unfolding number_at
 number_at-fits zero at bytes b = rw pow-zero (lit< tt)
 number_at-fits (suc width) at bytes b = rw pow-suc (digits_lt (number_at-fits width at bytes b) (b (at + width)))
+
+-- a number in bytes that are the same so far
+pub number_at-same : (width at most : ℕ) (bytes row : List ℕ) → at + width ≤ most → ((i : ℕ) → i < most → get_or row i 0 ≡ get_or bytes i 0) → number_at row at width ≡ number_at bytes at width
+unfolding number_at
+number_at-same zero at most bytes row h e = refl
+number_at-same (suc width) at most bytes row h e = rw (number_at-same width at most bytes row (omega arith) e, e (at + width) (omega arith))
