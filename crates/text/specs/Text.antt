@@ -1,6 +1,6 @@
 -- An entry's line of text, byte by byte (docs/REGISTER.md, 12.4 and 12.5).
 -- Assumes nothing.
-use Rattle.std.specs.Prelude.{ℕ, zero, suc, ◌+◌, ◌/◌, ◌%◌, ◌≤◌, ◌≡◌, Bool, false, cond, List, [], ◌∷◌, ◌++◌, ltb, eqb, length}
+use Rattle.std.specs.Prelude.{ℕ, zero, suc, ◌+◌, ◌/◌, ◌%◌, ◌≤◌, ◌≡◌, Bool, false, cond, List, [], ◌∷◌, ◌++◌, ltb, eqb, length, take}
 use Rattle.std.proofs.lemmas.List.Edits.{sets}
 use Rattle.events.specs.declared.Event.{Event}
 use Rattle.events.specs.Kinds.{event_kind, amount_of}
@@ -81,6 +81,10 @@ lines_of account (e ∷ es) = line_of account e ++ lines_of account es
 abbrev pub longest_line : ℕ
 longest_line = 72
 
+-- what a line keeps of text that grows: no more than the longest has
+abbrev pub kept : (text : List ℕ) → List ℕ
+kept text = take longest_line text
+
 -- a rejection in kind 18 has no reason to show (9.1)
 abbrev pub is_older : (kind : ℕ) → Bool
 is_older kind = eqb kind 18
@@ -94,7 +98,3 @@ pub record Put (text : List ℕ) (at most : ℕ) (before : List ℕ) (next : ℕ
   pub place : next ≡ at + length text
   pub within : next ≤ at + most
   pub stored : after ≡ sets before at text
-
--- where text may end: far behind any place that is used, and there for the checker's sums alone
-abbrev pub farthest : ℕ
-farthest = 4_096

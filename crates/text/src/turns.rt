@@ -1,5 +1,5 @@
 // One message: it is sent to the register, and the lines of its entries, or that of its refusal, are stored at the beginning of a buffer.
-ghost use Rattle.std.specs.Prelude.{◌≡◌, min};
+ghost use Rattle.std.specs.Prelude.{◌≡◌};
 ghost use Rattle.entry.specs.Bytes.{list_of};
 ghost use Rattle.text.specs.Text.{lines_of, Put};
 ghost use Rattle.text.specs.Output.{refused_turn, sent_turn, read_turn};
@@ -7,6 +7,7 @@ ghost use Rattle.text.specs.Program.{longest_text};
 ghost use Rattle.text.specs.Turned.{Turns};
 
 use crate::line;
+use crate::line::Line;
 use account::Answer;
 use filing::Entries;
 use message::Reading;
@@ -57,12 +58,15 @@ fn sent_turn(sent: Sent, account: u16, consumed: usize, out: &mut [u8]) -> Turne
 fn refused_turn(register: Register, number: u8, out: &mut [u8]) -> Turned
     ensures { Turns (refused_turn register number) out.old result out.new }
 {
-    let numbered = line::put_named(out, b"refused", number as u32);
-    let written = line::end_line(out, numbered);
+    let mut line = Line::new();
+    line.put(b"refused");
+    line.put_number(number as u32);
+    line.put(b"\n");
+    line::store(out, 0, line.as_slice());
     Turned {
         register,
         reply: Reply::Refused(number),
-        written,
+        written: line.len(),
     }
 }
 
@@ -70,20 +74,11 @@ fn refused_turn(register: Register, number: u8, out: &mut [u8]) -> Turned
 fn put_lines(out: &mut [u8], entries: Entries, account: u16) -> usize
     ensures { Put (lines_of account (list_of entries)) 0 longest_text out.old result out.new }
 {
-    let count = least(entries.count, Entries::MOST);
     let mut at = 0;
-    let mut i = 0;
-    while i < count {
-        let entry = entries.at[i];
-        at = line::put_line(out, at, entry, false, account);
-        i += 1;
+    for entry in &entries.at[..entries.count.min(Entries::MOST)] {
+        let line = Line::of(*entry, false, account);
+        line::store(out, at, line.as_slice());
+        at += line.len();
     }
     at
-}
-
-// The smaller of two numbers.
-fn least(one: usize, other: usize) -> usize
-    ensures { result ≡ min one other }
-{
-    if one < other { one } else { other }
 }
