@@ -5,7 +5,7 @@ use Prim.Native.Nat.{ℕ, ◌+◌, ◌-◌, ◌≤◌, ◌<◌}
 use native.Mathlib.Omega.{arith}
 use mathlib.Core.Path.{◌≡◌, refl, ◌∙◌}
 use mathlib.Core.Bool.{Bool, true, false, cond}
-use mathlib.Core.List.{List, []}
+use mathlib.Core.List.{List}
 use borrow.Author.Tests.{lt-ltb, le-ltb}
 use borrow.Author.Rules.{part_to_end}
 use lib.ListN.{length, take, drop, length-drop}
@@ -22,8 +22,7 @@ use Rattle.text.specs.declared.turns.Turned.{Turned}
 use Rattle.text.specs.Output.{read_turn, turn_at}
 use Rattle.text.specs.Program.{longest_text, next_turn, next_passed, start_after, counted, serve_text, serve_of, Serves}
 use Rattle.text.specs.Turned.{Turns}
-use Rattle.text.proofs.Texts.{put-nothing, put-room}
-use Rattle.text.proofs.Pieces.{put-length}
+use Rattle.text.proofs.Pieces.{put-length, put-nothing}
 use Rattle.text.proofs.Turning.{Moves, turn-moves}
 
 module _ (s : Served) (input : List ℕ) where
@@ -65,7 +64,7 @@ module _ (s : Served) (input : List ℕ) where
   unfolding serve_text serve_of
   serves-none l h =
       let t = le-ltb s.from (length input) h in
-      record { state = rw t; text = rw t (put-room [] 0 0 longest_text 0 l l (omega arith) (put-nothing 0 l)); further = λ k. absurd (omega arith) }
+      record { state = rw t; text = rw t (put-nothing longest_text l); further = λ k. absurd (omega arith) }
 
   -- one message
   pub serves-one : (turned : Turned) (passed : Passed) (start met refused : ℕ) (l l₁ : List ℕ) → s.from < length input → Turns (next_turn s input) l turned l₁

@@ -1,15 +1,15 @@
 -- A line as it grows: what is put behind what it keeps is put behind all that was put before, and stored text is a run of stores.
 -- Assumes nothing.
 use Prim.Native.Nat.{ℕ, zero, suc, ◌+◌, ◌-◌, ◌≤◌, ◌<◌, min}
-use native.Mathlib.Nat.{add-suc, suc-add}
 use native.Mathlib.Omega.{arith}
 use mathlib.Core.Path.{◌≡◌, refl, sym, ◌∙◌, ap}
-use mathlib.Core.List.{List, [], ◌∷◌, ◌++◌, append_assoc}
+use mathlib.Core.List.{List, [], ◌∷◌, ◌++◌, append-nil, append_assoc}
+use lib.Dec.{lit≤}
 use lib.ListN.{length, take, drop, set, length-set}
-use lib.Seq.{sets, sets-eq, take-append-add, take_all, length-take-le, drop-drop}
+use lib.Seq.{sets, sets-eq, take-append-add, take_all, length-take-le}
 use borrow.Rule.Slice.PartMut.{put_mid}
 use Rattle.std.proofs.Math.Nat.{min_comm}
-use Rattle.std.proofs.lemmas.List.{take_min, length-take}
+use Rattle.std.proofs.lemmas.List.{take_min, take-take}
 use Rattle.std.proofs.lemmas.Slice.{take-put_mid, put_mid-paste}
 use Rattle.layout.proofs.Stores.{sets-out}
 use Rattle.text.specs.Text.{spaced, longest_line, kept}
@@ -30,12 +30,12 @@ least-text text n = rw min_comm (take_min n text)
 pub store-part : (text part l : List ℕ) (at count : ℕ) → at < length l → count ≡ min (length text) (length l - at) → part ≡ take count text
     → put_mid at (at + count - at) l part ≡ sets l at text
 store-part text part l at count h least is =
-    let n : length (take count text) ≡ count = length-take-le count text (omega arith) in
-    let all : sets l at (take count text) ≡ sets l at text = rw (least, least-text text (length l - at)) (sets-within text l at (length l - at) (omega arith)) in
-    let fits : at + length (take count text) ≤ length l = omega arith in
-    put_mid-paste at (at + count - at) l part (take count text) count is (omega arith) (sym n)
-    ∙ rw take_all (rw n at (sym (sets-eq (take count text) l at fits)))
-    ∙ all
+    let these = take count text in
+    let n : length these ≡ count = length-take-le count text (omega arith) in
+    let all : sets l at these ≡ sets l at text = rw (least, least-text text (length l - at)) (sets-within text l at (length l - at) (omega arith)) in
+    let laid : sets l at these ≡ take at l ++ these ++ drop (at + count) l = rw n at (sets-eq these l at (omega (arith, n))) in
+    put_mid-paste at (at + count - at) l part these count is (omega arith) (sym n)
+    ∙ ap (λ (x : List ℕ). take at l ++ x ++ drop (at + count) l) (take_all count these (omega arith)) ∙ sym laid ∙ all
 
 -- ---- growing
 
@@ -45,12 +45,14 @@ take-more (suc n) [] ys = refl
 take-more (suc n) (x ∷ xs) ys = ap (λ (l : List ℕ). x ∷ l) (take-more n xs ys)
 
 -- one piece behind the other
-pub grown : {l l₁ l₂ : List ℕ} (xs ys : List ℕ) → l₁ ≡ kept (l ++ xs) → l₂ ≡ kept (l₁ ++ ys) → l₂ ≡ kept (l ++ (xs ++ ys))
-grown {l} xs ys p q = q ∙ rw p (take-more longest_line (l ++ xs) ys) ∙ rw append_assoc refl
+pub grown : (xs ys l l₁ l₂ : List ℕ) → l₁ ≡ kept (l ++ xs) → l₂ ≡ kept (l₁ ++ ys) → l₂ ≡ kept (l ++ (xs ++ ys))
+grown xs ys l l₁ l₂ p q =
+    let more : take longest_line (kept (l ++ xs) ++ ys) ≡ kept ((l ++ xs) ++ ys) = take-more longest_line (l ++ xs) ys in
+    rw (← append_assoc l xs ys) (q ∙ rw p more)
 
--- nothing, of what is no longer than a line
-pub kept-all : (l : List ℕ) → length l ≤ longest_line → l ≡ kept l
-kept-all l h = sym (take_all longest_line l h)
+-- nothing more
+pub kept-still : (xs l : List ℕ) → l ≡ kept xs → l ≡ kept (l ++ [])
+kept-still xs l p = rw (append-nil l, p) (sym (take-take longest_line longest_line xs (lit≤ tt)))
 
 -- letters laid behind those that are there, as many as there is room for
 pub letters-put : (letters part line : List ℕ) (size count : ℕ) → length line ≡ longest_line → size ≤ longest_line → count ≡ min (length letters) (longest_line - size) → part ≡ take count letters
@@ -59,8 +61,10 @@ letters-put letters part line size count whole h least is =
     let n : length part ≡ count = rw is (length-take-le count letters (omega arith)) in
     let first : length (take size line) ≡ size = length-take-le size line (omega arith) in
     let room : length (take size line) + (longest_line - size) ≡ longest_line = omega arith in
+    let these : part ≡ take (longest_line - size) letters = is ∙ rw least (least-text letters (longest_line - size)) in
     take-put_mid size (size + count - size) line part (size + count) (omega arith) (omega arith)
-    ∙ rw (is, least, least-text letters (longest_line - size)) (sym (take-append-add (take size line) letters (longest_line - size)))
+    ∙ ap (λ (x : List ℕ). take size line ++ x) these
+    ∙ sym (take-append-add (take size line) letters (longest_line - size))
     ∙ ap (λ (k : ℕ). take k (take size line ++ letters)) room
 
 -- ---- fields with a space before each
@@ -70,5 +74,9 @@ spaced-append [] ys = refl
 spaced-append (x ∷ xs) ys = rw (spaced-append xs ys) (ap (λ (r : List ℕ). 32 ∷ r) (sym (append_assoc x (spaced xs) (spaced ys))))
 
 -- fields behind fields
-pub fields-grown : {l l₁ l₂ : List ℕ} (xs ys : List (List ℕ)) → l₁ ≡ kept (l ++ spaced xs) → l₂ ≡ kept (l₁ ++ spaced ys) → l₂ ≡ kept (l ++ spaced (xs ++ ys))
-fields-grown xs ys p q = rw (spaced-append xs ys) (grown (spaced xs) (spaced ys) p q)
+pub fields-grown : (xs ys : List (List ℕ)) (l l₁ l₂ : List ℕ) → l₁ ≡ kept (l ++ spaced xs) → l₂ ≡ kept (l₁ ++ spaced ys) → l₂ ≡ kept (l ++ spaced (xs ++ ys))
+fields-grown xs ys l l₁ l₂ p q = rw (spaced-append xs ys) (grown (spaced xs) (spaced ys) l l₁ l₂ p q)
+
+-- a space and a field
+pub field-grown : (field l l₁ l₂ : List ℕ) → l₁ ≡ kept (l ++ 32 ∷ []) → l₂ ≡ kept (l₁ ++ field) → l₂ ≡ kept (l ++ spaced (field ∷ []))
+field-grown field l l₁ l₂ p q = rw (append-nil field) (grown (32 ∷ []) field l l₁ l₂ p q)

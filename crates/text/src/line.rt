@@ -1,12 +1,12 @@
 // An entry's line of text, and the pieces that every line is made of.
-ghost use Rattle.std.specs.Prelude.{ℕ, List, [], ◌∷◌, ◌++◌, ◌≡◌, ◌≤◌, length, take};
+ghost use Rattle.std.specs.Prelude.{ℕ, List, [], ◌∷◌, ◌++◌, ◌≡◌, ◌<◌, ◌≤◌, length, take};
 ghost use Rattle.std.proofs.lemmas.List.Edits.{sets};
 ghost use Rattle.events.specs.Kinds.{amount_of};
 ghost use Rattle.text.specs.Text.{decimal, event_name, spaced, line_as, longest_line, kept, write_line_of};
 
 use crate::{LONGEST_LINE, words};
 use events::Event;
-use filing::{Entry, Told, Verdict};
+use filing::{Entry, Told, Verdict, Weighing};
 use layout::Writing;
 use std::marker::Model;
 
@@ -55,14 +55,15 @@ impl Line {
         let mut line = Line::new();
         line.put(words::name(entry.told));
         line.put_number(entry.transaction);
-        line.put_number(account as u32);
+        line.put_number(u32::from(account));
         line.put_number(entry.filed.second);
         match entry.told {
-            Told::Voted(event, weighing) => {
+            Told::Voted(event, vote) => {
+                let Weighing { verdict, weighed, reason } = vote;
                 line.put_event(event);
-                line.put_number(weighing.weighed);
-                if weighing.verdict == Verdict::Rejected && !older {
-                    line.put_number(weighing.reason as u32);
+                line.put_number(weighed);
+                if verdict == Verdict::Rejected && !older {
+                    line.put_reason(reason);
                 }
             }
             Told::Noted => {}
@@ -86,7 +87,8 @@ impl Line {
     }
 
     pub(crate) fn len(&self) -> usize
-        ensures { result ≡ length self.now }
+        ensures length { result ≡ length self.now }
+        ensures room { result ≤ longest_line }
     {
         self.length
     }
@@ -111,6 +113,14 @@ impl Line {
     {
         self.put(b" ");
         self.put_decimal(number);
+    }
+
+    // A space and a reason, which is a byte, so that it has three digits at most.
+    fn put_reason(&mut self, reason: u8)
+        ensures line { self.new ≡ kept (self.old ++ spaced (decimal reason ∷ [])) }
+        ensures byte { reason < 256 }
+    {
+        self.put_number(u32::from(reason));
     }
 
     // The digits of a number.

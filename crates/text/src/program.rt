@@ -29,16 +29,15 @@ pub struct Served {
 pub fn begin(input: &[u8], out: &mut [u8]) -> Served
     ensures { (result ≡ begin_of input.now) × (Put (begin_text input.now) 0 20 out.old result.written out.new) }
 {
-    let too_long = LONGEST_INPUT < input.len();
-    let text: &[u8] = if too_long {
-        b"register 1\ntoo long\n"
+    let (text, from): (&[u8], usize) = if LONGEST_INPUT < input.len() {
+        (b"register 1\ntoo long\n", input.len())
     } else {
-        b"register 1\n"
+        (b"register 1\n", 0)
     };
     line::store(out, 0, text);
     Served {
         register: Register::fresh(),
-        from: if too_long { input.len() } else { 0 },
+        from,
         met: 0,
         refused: 0,
         written: text.len(),

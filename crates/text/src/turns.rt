@@ -75,7 +75,7 @@ fn put_lines(out: &mut [u8], entries: Entries, account: u16) -> usize
     ensures { Put (lines_of account (list_of entries)) 0 longest_text out.old result out.new }
 {
     let mut at = 0;
-    for entry in &entries.at[..entries.count.min(Entries::MOST)] {
+    for entry in entries.as_slice() {
         let line = Line::of(*entry, false, account);
         line::store(out, at, line.as_slice());
         at += line.len();
