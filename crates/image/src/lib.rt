@@ -42,7 +42,7 @@ const NO_ACCOUNT: Account = Account {
     holding: 0,
 };
 
-// The account whose image begins at `from`. It has one way out, so that the compiler makes it where the caller wants it.
+// The account whose image begins at `from`. One way out: with another for too few words it was copied, which was tried and costs a quarter more.
 pub fn read_account(image: &[u32], from: usize) -> Account
     ensures { result ≡ account_from image.now from }
 {

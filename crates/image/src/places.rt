@@ -7,6 +7,7 @@ use crate::{PLACE_WORDS, fields};
 use filing::{Filed, Slot};
 
 // What the words of a place read as, and whether they are a place's.
+// Both, and no Option: the definition `account_from` says what a damaged image reads as, slot by slot.
 #[derive(Clone, Copy, Drop)]
 pub(crate) struct Place {
     pub(crate) slot: Slot,
