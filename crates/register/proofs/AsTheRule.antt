@@ -7,6 +7,7 @@ use mathlib.Core.Bool.{true}
 use mathlib.Core.List.{List}
 use borrow.Author.Tests.{le-ltb}
 use lib.ListN.{length}
+use Rattle.std.specs.Prelude.{Ok}
 use Rattle.rule.specs.Rule.{Rule}
 use Rattle.rule.specs.Call as Rule-Call
 use Rattle.events.specs.declared.Event.{Event}
@@ -18,7 +19,6 @@ use Rattle.account.specs.InOrder.{in_order_by}
 use Rattle.account.specs.Steps.{stepped_by, step_by}
 use Rattle.entry.proofs.CallFits.{listed}
 use Rattle.message.specs.declared.Message.{Message}
-use Rattle.message.specs.declared.Reading.TheVariants as Reading'
 use Rattle.message.specs.Bytes.{heading_of}
 use Rattle.message.specs.Answers.{read_of}
 use Rattle.register.specs.declared.Register.{Register}
@@ -36,7 +36,7 @@ answer-ruled r buffer i consumed a next (Rule-Call.taken xs) =
     rw (listed xs) (record { refusal' = refl; consumed' = refl; written' = refl; register' = refl; buffer' = refl })
 
 module _ (R : Rule State Event ℕ) where
-  pub as-the-rule : (r : Register) (bytes buffer : List ℕ) (m : Message) (consumed : ℕ) → read_of bytes ≡ Reading'.Message m consumed → 323 ≤ length buffer
+  pub as-the-rule : (r : Register) (bytes buffer : List ℕ) (m : Message) (consumed : ℕ) → read_of bytes ≡ Ok (m, consumed) → 323 ≤ length buffer
       → in_order_by R (account_at r (account_in bytes)) ≡ true
       → Ruled r buffer (account_in bytes) consumed (Rule-Call.call R (lists_of (account_at r (account_in bytes))) (rule_message m)) (called_by R r bytes buffer)
   unfolding called_by after_message sent_by step_by

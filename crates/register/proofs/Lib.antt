@@ -1,3 +1,4 @@
+pub mod Numbers
 pub mod ReadAs
 pub mod Whole
 pub mod Passing
@@ -21,11 +22,7 @@ pub mod Own
 pub mod Underway
 pub mod WholeRuns
 pub mod Alike
-pub mod Turned
-pub mod Reached
 pub mod Writes
-pub mod Votes
-pub mod Accounts
 pub mod RunCalls
 pub mod RunSeconds
 pub mod Longest
