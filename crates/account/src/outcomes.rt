@@ -84,7 +84,7 @@ impl Outcomes {
     {
         match verdict {
             Verdict::Accepted => 0,
-            Verdict::Rejected => event.reason(self.first),
+            Verdict::Rejected => event.reason_byte(self.first),
             Verdict::Held => 0,
         }
     }

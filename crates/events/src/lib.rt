@@ -5,6 +5,8 @@ mod condition;
 mod glance;
 mod reasons;
 
+pub use reasons::Reason;
+
 ghost use Rattle.std.specs.Prelude.{◌≡◌, cond, ◌+◌, ◌-◌, leb};
 ghost use Rattle.events.specs.Events.{is_new, is_opened, is_closed, guard_of, effect_of, state_fits, is_blank_event};
 ghost use Rattle.events.specs.Kinds.{event_kind, amount_of, event_of};
@@ -14,7 +16,7 @@ ghost use Rattle.events.specs.Range.{stored_effect};
 use condition::Condition;
 
 // An event, with its amount of adjustment steps.
-#[derive(Clone, Copy, Drop)]
+#[derive(Clone, Copy, PartialEq, Eq, Drop)]
 pub enum Event {
     Open(u32),
     Withdraw(u32),
@@ -22,7 +24,7 @@ pub enum Event {
     Close,
 }
 
-#[derive(Clone, Copy, Drop)]
+#[derive(Clone, Copy, PartialEq, Eq, Drop)]
 pub enum Life {
     New,
     Opened,
@@ -30,7 +32,7 @@ pub enum Life {
 }
 
 // The applied state of an account.
-#[derive(Clone, Copy, Drop)]
+#[derive(Clone, Copy, PartialEq, Eq, Drop)]
 pub struct State {
     pub life: Life,
     pub balance: u32,
@@ -70,10 +72,11 @@ impl Event {
     pub const BLANK: Event = Event::Open(0);
 
     // Whether the event may be applied in this state: nothing is against it.
+    #[tactic(auto, unfolding(crate::specs::Events::guard_of))]
     pub fn guard(self, state: State) -> bool
         ensures { result ≡ guard_of self state }
     {
-        self.reason(state) == 0
+        self.reason(state).is_none()
     }
 
     // The state after the event; the same state where its guard fails.

@@ -1,27 +1,27 @@
 // What is filed with an event, the place that an event takes on an account, and the entries of one call, as values (docs/REGISTER.md, 2 and 9).
 #![tactic(auto)]
 
-ghost use Rattle.std.specs.Prelude.{◌≡◌};
+ghost use Rattle.std.specs.Prelude.{◌≡◌, take};
 ghost use Rattle.rule.specs.Rule as rule;
 ghost use Rattle.filing.specs.Slots.{is_undecided, is_blank_filed, is_blank, committed_slot};
-ghost use Rattle.filing.specs.Entries.{is_accepted, is_held, weighing_of, entry_of, only_entry};
+ghost use Rattle.filing.specs.Entries.{is_accepted, is_held, weighing_of, entry_of, only_entry, pushed};
 
 use events::Event;
 
 // What is filed with an event and its entries: nothing that is decided looks at it.
-#[derive(Clone, Copy, Drop)]
+#[derive(Clone, Copy, PartialEq, Eq, Drop)]
 pub struct Filed {
     pub second: u32,
 }
 
-#[derive(Clone, Copy, Drop)]
+#[derive(Clone, Copy, PartialEq, Eq, Drop)]
 pub enum Decision {
     Undecided,
     Committed,
 }
 
 // A place of an account: an event in progress, or a request held, which has no decision and stands as undecided.
-#[derive(Clone, Copy, Drop)]
+#[derive(Clone, Copy, PartialEq, Eq, Drop)]
 pub struct Slot {
     pub transaction: u32,
     pub filed: Filed,
@@ -30,7 +30,7 @@ pub struct Slot {
 }
 
 // How a request is decided.
-#[derive(Clone, Copy, Drop)]
+#[derive(Clone, Copy, PartialEq, Eq, Drop)]
 pub enum Verdict {
     Accepted,
     Rejected,
@@ -38,7 +38,7 @@ pub enum Verdict {
 }
 
 // A decision, the number of outcomes weighed for it, and the reason of a rejection, 0 for any other.
-#[derive(Clone, Copy, Drop)]
+#[derive(Clone, Copy, PartialEq, Eq, Drop)]
 pub struct Weighing {
     pub verdict: Verdict,
     pub weighed: u32,
@@ -46,7 +46,7 @@ pub struct Weighing {
 }
 
 // What an entry says of its transaction: a vote with its weighing, a commit noted, an event applied with the balance after it, an event dropped.
-#[derive(Clone, Copy, Drop)]
+#[derive(Clone, Copy, PartialEq, Eq, Drop)]
 pub enum Told {
     Voted(Event, Weighing),
     Noted,
@@ -55,7 +55,7 @@ pub enum Told {
 }
 
 // An entry, as a value: without the number of the account, which an account does not know.
-#[derive(Clone, Copy, Drop)]
+#[derive(Clone, Copy, PartialEq, Eq, Drop)]
 pub struct Entry {
     pub transaction: u32,
     pub filed: Filed,
@@ -63,7 +63,7 @@ pub struct Entry {
 }
 
 // The entries of one call, in the order in which they were written: the first `count` places; the others are blank.
-#[derive(Clone, Copy, Drop)]
+#[derive(Clone, Copy, PartialEq, Eq, Drop)]
 pub struct Entries {
     pub at: [Entry; Entries::MOST],
     pub count: usize,
@@ -239,5 +239,22 @@ impl Entries {
         let mut at = [Entry::BLANK; Entries::MOST];
         at[0] = entry;
         Entries { at, count: 1 }
+    }
+
+    // The entries, as a slice.
+    pub fn as_slice(&self) -> &[Entry]
+        ensures { result.now ≡ take self.now.count self.now.at }
+    {
+        &self.at[..self.count.min(Entries::MOST)]
+    }
+
+    // One entry more, the newest; with no place left the entries stay as they are.
+    pub fn push(&mut self, entry: Entry)
+        ensures { self.new ≡ pushed self.old entry }
+    {
+        if self.count < Entries::MOST {
+            self.at[self.count] = entry;
+            self.count += 1;
+        }
     }
 }
