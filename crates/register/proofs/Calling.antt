@@ -18,7 +18,7 @@ use Rattle.events.specs.declared.Event.{Event}
 use Rattle.events.specs.declared.State.{State}
 use Rattle.filing.specs.Entries.{RuleEntry, entry_of}
 use Rattle.account.specs.Places.{RuleAccount, account_of}
-use Rattle.layout.specs.Answers.{laid_over}
+use Rattle.layout.specs.Writes.{laid_over}
 use Rattle.message.specs.declared.Message.{Message}
 use Rattle.message.specs.Answers.{read_of}
 use Rattle.entry.specs.Bytes.{bytes_of_entries}

@@ -29,7 +29,7 @@ use Rattle.account.specs.declared.Account.{Account}
 use Rattle.account.specs.Places.{RuleAccount, lists_of, account_of}
 use Rattle.account.proofs.Padded.{lists-account}
 use Rattle.layout.specs.Number.{AreBytes}
-use Rattle.layout.specs.Answers.{laid_over}
+use Rattle.layout.specs.Writes.{laid_over}
 use Rattle.message.specs.declared.Message.{Message}
 use Rattle.message.specs.declared.Message.TheVariants.{Request, Commit, Abort}
 use Rattle.message.specs.Bytes.{heading_of}

@@ -20,6 +20,7 @@ pub mod Seconds
 pub mod AsTheRule
 pub mod Own
 pub mod Underway
+pub mod Turned
 pub mod WholeRuns
 pub mod Alike
 pub mod Writes

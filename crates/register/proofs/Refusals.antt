@@ -108,7 +108,7 @@ module _ (R : rule.Rule State Event ℕ) (a : Account) where
       by : Option ℕ → Rule-Call.Called Filed State Event ℕ
       by o = Rule-Call.call_by o (lists_of a) (rule-step.step R (lists_of a) m)
 
-      go : (b : Bool) (o : Option ℕ) → refusal_in (cond b (stepped_by a (by o).account (by o).answer) (refused_by a NotInOrder)).answer ≡ cond (not b) (some 5) o
+      go : (b : Bool) (o : Option ℕ) → refusal_in (cond b (stepped_by a (by o).account (by o).answer) (refused_by a 5)).answer ≡ cond (not b) (some 5) o
       go true none = refl
       go true (some n) = refl
       go false o = refl

@@ -11,6 +11,7 @@ use lib.Seq.{take_at, drop_at}
 use native.Mathlib.Omega.{arith}
 use Rattle.refusal.specs.Numbers.{number_of}
 use Rattle.register.proofs.Numbers.{apart}
+use Rattle.account.specs.Steps as steps
 use Rattle.account.specs.Steps.{refusal_in}
 use Rattle.refusal.specs.declared.Refusal.TheVariants.{NoRoom}
 use Rattle.std.specs.Prelude.{Result, Err, Ok}
@@ -25,7 +26,7 @@ use Rattle.message.specs.Bytes.{heading_of}
 use Rattle.entry.specs.Bytes.{bytes_of_entries, list_of}
 use Rattle.entry.specs.Answers.{longest_call}
 use Rattle.register.specs.declared.Register.{Register}
-use Rattle.register.specs.Register.{rule_message, fresh_by, sent_by, Sent, brought}
+use Rattle.register.specs.Register.{rule_message, fresh_by, sent_by, Sent}
 use Rattle.register.specs.Call.{written_of, Called, refused_with, wrote_of, wrote_as, after_message, after_reading, called_by}
 use Rattle.register.specs.Sequence.{Input, exchanges}
 use Rattle.register.specs.Filed as filed
@@ -72,7 +73,7 @@ module _ (R : Rule State Event ℕ) where
         → SameResult (wrote_of r buffer i consumed sent) (wrote_of r' buffer i consumed sent')
     wrote-same i consumed sent sent' h = by sent.answer sent'.answer h.answers h.entries
       where
-        by : (answer answer' : Result Entries Refusal) → refusal_in answer ≡ refusal_in answer' → map forgotten (list_of (brought answer)) ≡ map forgotten (list_of (brought answer'))
+        by : (answer answer' : Result Entries Refusal) → refusal_in answer ≡ refusal_in answer' → map forgotten (list_of (steps.entries_in answer)) ≡ map forgotten (list_of (steps.entries_in answer'))
             → SameResult (wrote_as r buffer i consumed answer sent.register) (wrote_as r' buffer i consumed answer' sent'.register)
         by (Err n) (Err n') e z =
             let y : number_of n ≡ number_of n' = cc in rw (apart n n' y) (refused-same n')

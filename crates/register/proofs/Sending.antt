@@ -25,7 +25,7 @@ use Rattle.filing.specs.Entries.{entry_of, entries_of}
 use Rattle.account.specs.declared.Account.{Account}
 use Rattle.account.specs.Places.{RuleAccount, lists_of, account_of}
 use Rattle.account.specs.InOrder.{in_order_by}
-use Rattle.account.specs.Steps.{refused_by, stepped_by, step_by}
+use Rattle.account.specs.Steps.{entries_in, refused_by, stepped_by, step_by}
 use Rattle.account.proofs.Kept.{order-lists}
 use Rattle.layout.specs.Fields.{last_account}
 use Rattle.message.specs.declared.Message.{Message}
@@ -82,7 +82,7 @@ module _ (R : rule.Rule State Event ℕ) (r : Register) (m : Message) where
       by-rule none e o l = taken (record { known = l; in_order = o; unrefused = e })
 
       by_order : (b : Bool) → in_order_by R a ≡ b → place ≤ last_account
-          → Sending (sent_in r place (cond b (stepped_by a (Rule-Call.call R lists (rule_message m)).account (Rule-Call.call R lists (rule_message m)).answer) (refused_by a NotInOrder)))
+          → Sending (sent_in r place (cond b (stepped_by a (Rule-Call.call R lists (rule_message m)).account (Rule-Call.call R lists (rule_message m)).answer) (refused_by a 5)))
       by_order true o l = by-rule (Rule-Call.refusal R lists (rule_message m)) refl o l
       by_order false o l = refused NotInOrder (omega arith)
 
@@ -99,17 +99,17 @@ module _ (R : rule.Rule State Event ℕ) (r : Register) (m : Message) where
   taken-bytes k free i = rw (listed taking.entries) at ((taken-fits k free).bytes i)
 
 -- and so have those of any step of an account
-pub step-bytes : (R : rule.Rule State Event ℕ) → Suits R → (a : Account) (m : rule.Message Filed Event) (i : ℕ) → length (bytes_of_entries i (list_of (step_by R a m).entries)) ≤ longest_call
+pub step-bytes : (R : rule.Rule State Event ℕ) → Suits R → (a : Account) (m : rule.Message Filed Event) (i : ℕ) → length (bytes_of_entries i (list_of (entries_in (step_by R a m).answer))) ≤ longest_call
 unfolding step_by
 step-bytes R k a m i = by_order (in_order_by R a) refl
   where
     called : Rule-Call.Called Filed State Event ℕ
     called = Rule-Call.call R (lists_of a) m
 
-    by_answer : (answer : Rule-Call.Answer Filed Event ℕ) → CallFits (Rule-Call.written answer) → length (bytes_of_entries i (list_of (stepped_by a called.account answer).entries)) ≤ longest_call
+    by_answer : (answer : Rule-Call.Answer Filed Event ℕ) → CallFits (Rule-Call.written answer) → length (bytes_of_entries i (list_of (entries_in (stepped_by a called.account answer).answer))) ≤ longest_call
     by_answer (Rule-Call.refused n) h = h.bytes i
     by_answer (Rule-Call.taken xs) h = h.bytes i
 
-    by_order : (b : Bool) → in_order_by R a ≡ b → length (bytes_of_entries i (list_of (cond b (stepped_by a called.account called.answer) (refused_by a NotInOrder)).entries)) ≤ longest_call
+    by_order : (b : Bool) → in_order_by R a ≡ b → length (bytes_of_entries i (list_of (entries_in (cond b (stepped_by a called.account called.answer) (refused_by a 5)).answer))) ≤ longest_call
     by_order true o = by_answer called.answer (calls-fit.called R (lists_of a) m k.few k.few_held (order-lists R a o))
     by_order false o = calls-fit.nothing.bytes i

@@ -23,13 +23,14 @@ use Rattle.events.specs.declared.Event.{Event}
 use Rattle.events.specs.declared.State.{State}
 use Rattle.filing.specs.Entries.{entry_of, entries_of}
 use Rattle.account.specs.Places.{account_of}
+use Rattle.account.specs.Steps as steps
 use Rattle.account.specs.Steps.{refusal_in}
 use Rattle.message.specs.declared.Message.{Message}
 use Rattle.message.specs.Bytes.{heading_of}
 use Rattle.entry.specs.Bytes.{bytes_of_entries}
 use Rattle.entry.specs.Answers.{longest_call}
 use Rattle.register.specs.declared.Register.{Register}
-use Rattle.register.specs.Register.{nowhere, account_at, Sent, brought}
+use Rattle.register.specs.Register.{nowhere, account_at, Sent}
 use Rattle.register.specs.Call.{Called, refusal_of, consumed_of, written_of, refused_with, called_by}
 use Rattle.register.specs.Refusals.{account_in, length_by, call_tests}
 use Rattle.register.specs.Unchanged.{SendLeaves, Refusal, Taking, RepliesApart}
@@ -58,7 +59,7 @@ not_none n h = let z : ◌≡◌ {A = ℕ} 0 1 = cc in omega arith
 module _ (R : Rule State Event ℕ) (r : Register) (m : Message) where
   -- what is sent, by what it comes to
   record Parts (sent : Sent) : Type 0 where
-    same : (n : ℕ) → refusal_in sent.answer ≡ some n → (sent.register ≡ r) × (brought sent.answer ≡ entries_of [])
+    same : (n : ℕ) → refusal_in sent.answer ≡ some n → (sent.register ≡ r) × (steps.entries_in sent.answer ≡ entries_of [])
     count : length sent.register.accounts ≡ length r.accounts
     others : (j : ℕ) → (j ≡ (heading_of m).account → ⊥) → account_at sent.register j ≡ account_at r j
 

@@ -13,10 +13,11 @@ use Rattle.filing.specs.declared.Entry.{Entry}
 use Rattle.account.specs.declared.Account.{Account}
 use Rattle.account.specs.Places.{lists_of}
 use Rattle.account.specs.InOrder.{in_order_by}
+use Rattle.account.specs.Steps as steps
 use Rattle.account.specs.Steps.{refusal_in}
 use Rattle.entry.specs.Bytes.{bytes_of_entry}
 use Rattle.register.specs.declared.Register.{Register}
-use Rattle.register.specs.Register.{Sent, brought, nowhere, fresh_by}
+use Rattle.register.specs.Register.{Sent, nowhere, fresh_by}
 use Rattle.register.specs.Call.{written_of}
 use Rattle.register.specs.Sequence.{Input, Exchange, rule_entry, after, exchanges, seen_by, SerialPast}
 use Rattle.register.specs.Run.{Run}
@@ -75,7 +76,7 @@ module _ (R : Rule State Event ℕ) where
         × ((i : ℕ) → i ≤ 15 → SameAccount R f (get_or r.accounts i nowhere) (get_or r'.accounts i nowhere)))
     pub sent : SameSent R f x y
         ↔ ((refusal_in x.answer ≡ refusal_in y.answer)
-        × (map (λ e. entry_through f (rule_entry e)) (take (brought x.answer).count (brought x.answer).at) ≡ map (λ e. entry_through f (rule_entry e)) (take (brought y.answer).count (brought y.answer).at))
+        × (map (λ e. entry_through f (rule_entry e)) (take (steps.entries_in x.answer).count (steps.entries_in x.answer).at) ≡ map (λ e. entry_through f (rule_entry e)) (take (steps.entries_in y.answer).count (steps.entries_in y.answer).at))
         × SameRegister R f x.register y.register)
 
   -- the past of an account is that of its lists, by the exchanges that it saw

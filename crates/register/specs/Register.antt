@@ -1,7 +1,7 @@
 -- The register: its accounts, which a message names by their numbers; a message sent to it as a value; and the outcome question (docs/REGISTER.md, 7, 10.1 and 11.2).
 -- All of it by any rule of the events.
 -- Assumes nothing.
-use Rattle.std.specs.Prelude.{ℕ, suc, cond, Result, Ok, Err, [], ltb, get_or, set, replicate}
+use Rattle.std.specs.Prelude.{ℕ, suc, cond, Result, Ok, Err, ltb, get_or, set, replicate}
 use Rattle.refusal.specs.declared.Refusal.{Refusal}
 use Rattle.refusal.specs.declared.Refusal.TheVariants.{UnknownAccount}
 use Rattle.rule.specs.Rule as rule
@@ -10,7 +10,6 @@ use Rattle.events.specs.declared.Life.TheVariants.{New}
 use Rattle.events.specs.declared.State.{State}
 use Rattle.filing.specs.declared.Filed.{Filed}
 use Rattle.filing.specs.declared.Entries.{Entries}
-use Rattle.filing.specs.Entries.{entries_of}
 use Rattle.account.specs.declared.Account.{Account}
 use Rattle.account.specs.declared.Outlook.{Outlook}
 use Rattle.account.specs.Places.{account_of}
@@ -47,11 +46,6 @@ rule_message (Abort h) = rule.abort h.transaction h.filed
 pub record Sent : Type 0 where
   pub register : Register
   pub answer : Result Entries Refusal
-
--- the entries that an answer brings: none where it is a refusal
-abbrev pub brought : Result Entries Refusal → Entries
-brought (Err refusal) = entries_of []
-brought (Ok entries) = entries
 
 -- a message that is not taken: the same register
 abbrev pub not_sent : Register → Refusal → Sent

@@ -1,16 +1,14 @@
 // A run of messages: they are sent to a fresh register one after the other, as the program does (docs/REGISTER.md, 11.5).
-ghost use Rattle.std.specs.Prelude.{◌≡◌, Err};
+ghost use Rattle.std.specs.Prelude.{◌≡◌};
 ghost use Rattle.register.specs.First.{run_of};
 ghost use Rattle.register.specs.Run.{reply_number, passed_of, one, added};
-ghost use Rattle.register.specs.Helpers.{roomed, filed_of, Fitting, Countable};
+ghost use Rattle.register.specs.Helpers.{Countable};
 
 use crate::{Register, Taken};
-use filing::Entries;
-use message::Message;
 use refusal::Refusal;
 
 // What a run comes to: messages met, messages refused, bytes of messages passed, bytes of entries written.
-#[derive(Clone, Copy, PartialEq, Eq, Drop)]
+#[derive(Clone, Copy, Default, PartialEq, Eq, Drop)]
 pub struct Ran {
     pub met: usize,
     pub refused: usize,
@@ -33,21 +31,65 @@ pub fn run(messages: &[u8], entries: &mut [u8]) -> Ran
     ensures entries { entries.new ≡ (run_of messages.now entries.old).entries }
 {
     let mut register = Register::fresh();
-    let mut ran = Ran {
-        met: 0,
-        refused: 0,
-        consumed: 0,
-        written: 0,
-    };
+    let mut ran = Ran::default();
     while ran.consumed < messages.len() {
         let rest = &messages[ran.consumed..];
         let whole = message::whole_length(layout::number1(rest, 0));
         let reply = register.call(rest, &mut entries[ran.written..]);
         let passed = passed_by(reply, whole);
-        ran = with_message(ran, passed);
+        ran.add(passed);
         if passed.stops {
             return ran;
         }
     }
     ran
+}
+
+impl Ran {
+    // One message more.
+    fn add(&mut self, passed: Passed)
+        requires { Countable self.old passed }
+        ensures { self.new ≡ added self.old (one passed) }
+    {
+        self.met += 1;
+        self.refused += passed.refused;
+        self.consumed += passed.consumed;
+        self.written += passed.written;
+    }
+}
+
+// What a message comes to, by its reply and its whole length: here alone it is said where a run stops, and how it goes on.
+pub fn passed_by(reply: Result<Taken, Refusal>, whole: usize) -> Passed
+    ensures { result ≡ passed_of reply whole }
+{
+    match reply {
+        Ok(Taken { consumed, written }) => Passed {
+            refused: 0,
+            consumed,
+            written,
+            stops: false,
+        },
+        Err(Refusal::Torn | Refusal::UnknownKind) => Passed {
+            refused: 1,
+            consumed: 0,
+            written: 0,
+            stops: true,
+        },
+        Err(_) => Passed {
+            refused: 1,
+            consumed: whole,
+            written: 0,
+            stops: false,
+        },
+    }
+}
+
+// The number of a refusal; 0 where the message was taken.
+pub fn refusal_of(reply: Result<Taken, Refusal>) -> u8
+    ensures { result ≡ reply_number reply }
+{
+    match reply {
+        Ok(_) => 0,
+        Err(refusal) => refusal.number(),
+    }
 }
