@@ -10,6 +10,7 @@ use lib.Count.{ones}
 use lib.Dec.{eqb, leb, ltb}
 use lib.ListN.{length, length-map}
 use borrow.Author.Tests.{leb-true, leb-false, lt-ltb, le-ltb, ltb-false}
+use Rattle.account.proofs.Refused.{step-answer}
 use Rattle.filing.specs.declared.Entries.{Entries}
 use Rattle.refusal.specs.declared.Refusal.{Refusal}
 use Rattle.std.specs.Prelude.{Ok, Err, Result}
@@ -100,21 +101,8 @@ module _ (R : rule.Rule State Event ℕ) (a : Account) where
   rule-refusal (Commit h) = let t = h.transaction in rw (named-used t (progress_in a), named-used t (held_in a), committed-used t (progress_in a))
   rule-refusal (Abort h) = let t = h.transaction in rw (named-used t (progress_in a), named-used t (held_in a), committed-used t (progress_in a))
 
-  -- a step's refusal: 5, or the rule's
-  step-refusal : (m : rule.Message Filed Event) → refusal_in (step_by R a m).answer ≡ cond (not (in_order_by R a)) (some 5) (Rule-Call.refusal R (lists_of a) m)
-  unfolding step_by Rule-Call.call
-  step-refusal m = go (in_order_by R a) (Rule-Call.refusal R (lists_of a) m)
-    where
-      by : Option ℕ → Rule-Call.Called Filed State Event ℕ
-      by o = Rule-Call.call_by o (lists_of a) (rule-step.step R (lists_of a) m)
-
-      go : (b : Bool) (o : Option ℕ) → refusal_in (cond b (stepped_by a (by o).account (by o).answer) (refused_by a 5)).answer ≡ cond (not b) (some 5) o
-      go true none = refl
-      go true (some n) = refl
-      go false o = refl
-
   account-refusal : (m : Message) → refusal_in (step_by R a (rule_message m)).answer ≡ first_of (account_tests R (kind_of m) a (heading_of m).transaction)
-  account-refusal m = step-refusal (rule_message m) ∙ ap (cond (not (in_order_by R a)) (some 5)) (rule-refusal m)
+  account-refusal m = step-answer R a (rule_message m) ∙ ap (cond (not (in_order_by R a)) (some 5)) (rule-refusal m)
 
 module _ (R : rule.Rule State Event ℕ) where
   -- a message as a value

@@ -40,10 +40,10 @@ use Rattle.register.proofs.Suits.{Suits}
 
 -- the rule's refusals have a number that is 3 at least
 rule-high : (R : rule.Rule State Event ℕ) (a : RuleAccount) (m : rule.Message Filed Event) (n : ℕ) → Rule-Call.refusal R a m ≡ some n → 3 ≤ number_of (numbered n)
-rule-high R a (rule.request t g e) n h = ⊎_elim (λ z. omega arith) (λ z. omega arith) ((request-refused R a t g e).only n ((gives R a (rule.request t g e) n).1 h))
+rule-high R a (rule.request t g e) n h = ⊎_elim (λ z. rw z (omega arith)) (λ z. rw z (omega arith)) ((request-refused R a t g e).only n ((gives R a (rule.request t g e) n).1 h))
 rule-high R a (rule.commit t g) n h =
-    ⊎_elim (λ z. omega arith) (λ z. ⊎_elim (λ y. omega arith) (λ y. omega arith) z) ((commit-refused R a t g).only n ((gives R a (rule.commit t g) n).1 h))
-rule-high R a (rule.abort t g) n h = ⊎_elim (λ z. omega arith) (λ z. omega arith) ((abort_refused R a t g).only n ((gives R a (rule.abort t g) n).1 h))
+    ⊎_elim (λ z. rw z (omega arith)) (λ z. ⊎_elim (λ y. rw y (omega arith)) (λ y. rw y (omega arith)) z) ((commit-refused R a t g).only n ((gives R a (rule.commit t g) n).1 h))
+rule-high R a (rule.abort t g) n h = ⊎_elim (λ z. rw z (omega arith)) (λ z. rw z (omega arith)) ((abort_refused R a t g).only n ((gives R a (rule.abort t g) n).1 h))
 
 module _ (R : rule.Rule State Event ℕ) (r : Register) (m : Message) where
   -- the account that is named, its lists, and the rule's step of the message

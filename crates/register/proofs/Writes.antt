@@ -3,7 +3,6 @@
 -- Assumes nothing.
 use Prim.Native.Nat.{ℕ, ◌<◌, ◌≤◌}
 use mathlib.Core.Path.{◌≡◌, refl, ◌∙◌, ap}
-use mathlib.Core.Bool.{Bool, true, false, cond}
 use mathlib.Core.List.{List}
 use native.Mathlib.Omega.{arith}
 use lib.ListN.{length}
@@ -12,16 +11,15 @@ use borrow.Author.Tests.{lt-ltb, le-ltb}
 use Rattle.std.specs.Prelude.{Result, Ok, Err}
 use Rattle.refusal.specs.declared.Refusal.{Refusal}
 use Rattle.refusal.specs.declared.Refusal.TheVariants.{NoRoom}
+use Rattle.refusal.specs.Numbers.{number_of}
 use Rattle.rule.specs.Rule as rule
-use Rattle.rule.specs.Call as Rule-Call
 use Rattle.events.specs.declared.Event.{Event}
 use Rattle.events.specs.declared.State.{State}
 use Rattle.filing.specs.declared.Filed.{Filed}
 use Rattle.filing.specs.declared.Entries.{Entries}
 use Rattle.account.specs.declared.Account.{Account}
-use Rattle.account.specs.Places.{lists_of}
-use Rattle.account.specs.InOrder.{in_order_by}
-use Rattle.account.specs.Steps.{refused_by, stepped_by, step_by}
+use Rattle.account.specs.Steps.{Stepped, refusal_in, step_by}
+use Rattle.account.proofs.Refused.{refusal-same}
 use Rattle.layout.specs.Fields.{last_account}
 use Rattle.layout.specs.Writes.{wrote_over}
 use Rattle.message.specs.declared.Message.{Message}
@@ -37,16 +35,8 @@ use Rattle.register.proofs.Suits.{Suits}
 use Rattle.register.proofs.Sending.{taking, Sending, refused, taken, sending, taken-bytes}
 
 -- a refusal keeps the account
-pub step-keeps : (R : rule.Rule State Event ℕ) (a : Account) (m : rule.Message Filed Event) (x : Refusal) → (step_by R a m).answer ≡ Err x → (step_by R a m).account ≡ a
-unfolding step_by
-step-keeps R a m x e = go (in_order_by R a) (Rule-Call.call R (lists_of a) m).answer e
-  where
-    go : (b : Bool) (answer : Rule-Call.Answer Filed Event ℕ)
-        → (cond b (stepped_by a (Rule-Call.call R (lists_of a) m).account answer) (refused_by a 5)).answer ≡ Err x
-        → (cond b (stepped_by a (Rule-Call.call R (lists_of a) m).account answer) (refused_by a 5)).account ≡ a
-    go false answer e = refl
-    go true (Rule-Call.refused n) e = refl
-    go true (Rule-Call.taken xs) e = let z : ◌≡◌ {A = ℕ} 0 1 = cc in absurd (omega arith)
+step-keeps : (R : rule.Rule State Event ℕ) (a : Account) (m : rule.Message Filed Event) (x : Refusal) → (step_by R a m).answer ≡ Err x → (step_by R a m).account ≡ a
+step-keeps R a m x e = ap (λ (s : Stepped). s.account) (refusal-same R a m (number_of x) (ap refusal_in e))
 
 module _ (R : rule.Rule State Event ℕ) (r : Register) (m : Message) where
   -- sent to an account that there is: its step, in its place
