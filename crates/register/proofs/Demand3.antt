@@ -11,6 +11,7 @@ use lib.Dec.{eqb}
 use lib.ListN.{length, take, drop, length-set, get_or-replicate}
 use lib.Seq.{take_at, get_or-set_same, get_or-set_other}
 use borrow.Author.Tests.{eqb-true, eqb-false}
+use Rattle.register.proofs.Apart.{same-read}
 use Rattle.refusal.specs.Numbers.{number_of}
 use Rattle.std.specs.Prelude.{Result, Ok, Err}
 use Rattle.refusal.specs.declared.Refusal.{Refusal}
@@ -141,7 +142,7 @@ module _ (R : rule.Rule State Event ℕ) (k : Suits R) where
     kept : (consumed : ℕ) → read_of bytes ≡ Ok (m, consumed) → {x : Called} → Calling R r bytes buffer x → Kept x
     kept consumed q (refused n why) = kept-refused n
     kept consumed q (taken m' consumed' t) =
-        let same : m' ≡ m = let z : ◌≡◌ {A = Result (Message × ℕ) Refusal} (Ok (m', consumed')) (Ok (m, consumed)) = sym t.read ∙ q in cc in
+        let same : m' ≡ m = (same-read m' m consumed' consumed (sym t.read ∙ q)).0 in
         rw same (kept-taken consumed' (rw same at t.free))
 
   -- One call, on every account.

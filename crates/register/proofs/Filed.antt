@@ -12,7 +12,6 @@ use lib.ListN.{length-set, get_or-replicate}
 use lib.Seq.{get_or-set_same, get_or-set_other}
 use Rattle.refusal.specs.Numbers.{numbered}
 use Rattle.refusal.specs.declared.Refusal.{Refusal}
-use Rattle.std.specs.Prelude.{Err}
 use Rattle.refusal.specs.declared.Refusal.TheVariants.{UnknownAccount}
 use Rattle.rule.specs.Rule as rule
 use Rattle.rule.specs.Call as Rule-Call

@@ -1,4 +1,4 @@
-pub mod Numbers
+pub mod Apart
 pub mod ReadAs
 pub mod Whole
 pub mod Passing

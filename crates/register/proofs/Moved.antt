@@ -31,7 +31,7 @@ use Rattle.register.proofs.Calling.{Calling, refused, taken, calling}
 -- what a reply tells of the bytes
 abbrev pub Tells : (bytes : List ℕ) → Reply → Type 0
 Tells bytes (Err n) = Refusable bytes (number_of n)
-Tells bytes (Ok taken) = (taken.consumed ≡ length_at bytes) × Stands bytes
+Tells bytes (Ok done) = (done.consumed ≡ length_at bytes) × Stands bytes
 
 -- what a message does to the buffer, and what it comes to
 pub record Moved (bytes buffer left : List ℕ) (passed : Passed) : Type 0 where

@@ -14,7 +14,7 @@ use lib.ListN.{length, get_or, take, drop, length-append, length-take}
 use lib.Seq.{slice, take-nil, get_or-take, get_or-drop, take_at, drop_at}
 use Rattle.std.specs.Prelude.{Result, Ok, Err}
 use Rattle.refusal.specs.declared.Refusal.{Refusal}
-use Rattle.refusal.specs.declared.Refusal.TheVariants.{Torn, UnknownAccount}
+use Rattle.refusal.specs.declared.Refusal.TheVariants.{Torn, UnknownAccount, UnknownKind}
 use Rattle.rule.specs.Filed.{message_through, entry_through}
 use Rattle.filing.specs.declared.Filed.{Filed}
 use Rattle.filing.specs.declared.Told.{Told}

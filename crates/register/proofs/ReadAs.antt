@@ -9,8 +9,9 @@ use native.Mathlib.Omega.{arith}
 use lib.Dec.{eqb, leb, ltb}
 use lib.ListN.{length, get_or}
 use borrow.Author.Tests.{eqb-true, eqb-false, ltb-true, ltb-false, leb-true, leb-false}
+use Rattle.register.proofs.Apart.{same-read}
 use Rattle.refusal.specs.declared.Refusal.{Refusal}
-use Rattle.std.specs.Prelude.{Ok, Err}
+use Rattle.std.specs.Prelude.{Ok, Err, Result}
 use Rattle.refusal.specs.declared.Refusal.TheVariants.{Torn, UnknownAccount, UnknownKind}
 use Rattle.layout.specs.Number.{number_at}
 use Rattle.layout.specs.Fields.{row_of_kind, whole_of}
@@ -125,7 +126,7 @@ module _ (bytes : List ℕ) where
     pub message : m ≡ message_in
     pub length' : consumed ≡ length_by kind_in
 
-  not-message : (n : Refusal) (m : Message) (consumed : ℕ) → Err n ≡ Ok (m, consumed) → ⊥
+  not-message : (n : Refusal) (m : Message) (consumed : ℕ) → ◌≡◌ {A = Result (Message × ℕ) Refusal} (Err n) (Ok (m, consumed)) → ⊥
   not-message n m consumed e = let z : ◌≡◌ {A = ℕ} 0 1 = cc in omega arith
 
   pub read_as : (m : Message) (consumed : ℕ) → read_of bytes ≡ Ok (m, consumed) → Read m consumed
@@ -133,7 +134,7 @@ module _ (bytes : List ℕ) where
       go (eqb (length bytes) 0) (leb 1 kind_in) (leb kind_in 6) (ltb (length bytes) (length_by kind_in)) (ltb 15 (account_in bytes)) refl refl refl refl (sym reading ∙ e)
     where
       go : (a b b' c d : Bool) → leb 1 kind_in ≡ b → leb kind_in 6 ≡ b' → ltb (length bytes) (length_by kind_in) ≡ c → ltb 15 (account_in bytes) ≡ d
-          → cond a (Err Torn)
+          → cond {A = Result (Message × ℕ) Refusal} a (Err Torn)
           (cond (not (b && b')) (Err UnknownKind) (cond c (Err Torn) (cond d (Err UnknownAccount) (Ok (message_in, length_by kind_in)))))
           ≡ Ok (m, consumed)
           → Read m consumed
@@ -148,8 +149,8 @@ module _ (bytes : List ℕ) where
             highest = leb-true kind_in 6 q;
             whole = ltb-false (length bytes) (length_by kind_in) s;
             account = ltb-false 15 (account_in bytes) u;
-            message = let z : m ≡ message_in = cc in z;
-            length' = let z : consumed ≡ length_by kind_in = cc in z;
+            message = sym (same-read message_in m (length_by kind_in) consumed e).0;
+            length' = sym (same-read message_in m (length_by kind_in) consumed e).1;
           }
 
   pub account-read : (m : Message) (consumed : ℕ) → read_of bytes ≡ Ok (m, consumed) → (heading_of m).account ≡ account_in bytes

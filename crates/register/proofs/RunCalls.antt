@@ -147,10 +147,10 @@ module _ (R : Rule State Event ℕ) (k : Suits R) where
     turn_is : (reply : Reply) → called.reply ≡ reply → Tells bytes reply → Moved bytes buffer called.buffer (passed_of reply (length_at bytes)) → IsCalls R r bytes buffer (turn reply)
     turn_is (Err n) q (inl which) m = turn-stops n q which (rw (passed-stops n (length_at bytes) which) at m.stays)
     turn_is (Err n) q (inr (high, stands)) m = turn-skips n q high stands (rw (passed-skips n (length_at bytes) high) at m.stays)
-    turn_is (Ok taken) q t m = rw t.0 (turn-takes taken.written (q ∙ same) t.1 (rw t.0 at m))
+    turn_is (Ok done) q t m = rw t.0 (turn-takes done.written (q ∙ same) t.1 (rw t.0 at m))
       where
-        same : Ok taken ≡ took taken.written
-        same = λ i. Ok (record { consumed = t.0 i; written = taken.written })
+        same : Ok done ≡ took done.written
+        same = λ i. Ok (record { consumed = t.0 i; written = done.written })
 
   -- a run of no bytes
   no_call : (r : Register) (bytes buffer : List ℕ) (run : Run) → length bytes ≡ 0 → run ≡ ended-run buffer → IsCalls R r bytes buffer run

@@ -10,7 +10,7 @@ use native.Mathlib.Omega.{arith}
 use lib.Dec.{ltb}
 use lib.ListN.{length}
 use borrow.Author.Tests.{ltb-false}
-use Rattle.std.specs.Prelude.{Ok, Err}
+use Rattle.std.specs.Prelude.{Ok}
 use Rattle.refusal.specs.declared.Refusal.TheVariants.{NotInOrder, UnknownAccount}
 use Rattle.refusal.specs.Numbers.{number_of, numbered}
 use Rattle.refusal.specs.declared.Refusal.{Refusal}
@@ -38,12 +38,23 @@ use Rattle.register.specs.declared.Register.{Register}
 use Rattle.register.specs.Register.{account_at, with_account, rule_message, not_sent, sent_in, sent_by, Sent}
 use Rattle.register.proofs.Suits.{Suits}
 
--- the rule's refusals have a number that is 3 at least
-rule-high : (R : rule.Rule State Event ℕ) (a : RuleAccount) (m : rule.Message Filed Event) (n : ℕ) → Rule-Call.refusal R a m ≡ some n → 3 ≤ number_of (numbered n)
-rule-high R a (rule.request t g e) n h = ⊎_elim (λ z. rw z (omega arith)) (λ z. rw z (omega arith)) ((request-refused R a t g e).only n ((gives R a (rule.request t g e) n).1 h))
-rule-high R a (rule.commit t g) n h =
-    ⊎_elim (λ z. rw z (omega arith)) (λ z. ⊎_elim (λ y. rw y (omega arith)) (λ y. rw y (omega arith)) z) ((commit-refused R a t g).only n ((gives R a (rule.commit t g) n).1 h))
-rule-high R a (rule.abort t g) n h = ⊎_elim (λ z. rw z (omega arith)) (λ z. rw z (omega arith)) ((abort_refused R a t g).only n ((gives R a (rule.abort t g) n).1 h))
+-- the rule's refusals have their own numbers, which are 3 at least
+abbrev Numbered : ℕ → Type 0
+Numbered n = (number_of (numbered n) ≡ n) × (3 ≤ n)
+
+rule-numbers : (R : rule.Rule State Event ℕ) (a : RuleAccount) (m : rule.Message Filed Event) (n : ℕ) → Rule-Call.refusal R a m ≡ some n → Numbered n
+rule-numbers R a (rule.request t g e) n h = ⊎_elim (λ z. rw z (refl, omega arith)) (λ z. rw z (refl, omega arith)) ((request-refused R a t g e).only n ((gives R a (rule.request t g e) n).1 h))
+rule-numbers R a (rule.commit t g) n h =
+    ⊎_elim (λ z. rw z (refl, omega arith)) (λ z. ⊎_elim (λ y. rw y (refl, omega arith)) (λ y. rw y (refl, omega arith)) z) ((commit-refused R a t g).only n ((gives R a (rule.commit t g) n).1 h))
+rule-numbers R a (rule.abort t g) n h = ⊎_elim (λ z. rw z (refl, omega arith)) (λ z. rw z (refl, omega arith)) ((abort_refused R a t g).only n ((gives R a (rule.abort t g) n).1 h))
+
+pub answer-number : (R : rule.Rule State Event ℕ) (a : RuleAccount) (m : rule.Message Filed Event) (n : ℕ) → (Rule-Call.call R a m).answer ≡ Rule-Call.refused n → number_of (numbered n) ≡ n
+unfolding Rule-Call.call
+answer-number R a m n h = go (Rule-Call.refusal R a m) refl h
+  where
+    go : (o : Option ℕ) → Rule-Call.refusal R a m ≡ o → (Rule-Call.call_by o a (step R a m)).answer ≡ Rule-Call.refused n → number_of (numbered n) ≡ n
+    go none e h = let z : ◌≡◌ {A = ℕ} 0 1 = cc in absurd (omega arith)
+    go (some k) e h = let z : k ≡ n = cc in rw (← z) (rule-numbers R a m k e).0
 
 module _ (R : rule.Rule State Event ℕ) (r : Register) (m : Message) where
   -- the account that is named, its lists, and the rule's step of the message
@@ -78,7 +89,7 @@ module _ (R : rule.Rule State Event ℕ) (r : Register) (m : Message) where
 
       by-rule : (o : Option ℕ) → Rule-Call.refusal R lists (rule_message m) ≡ o → in_order_by R a ≡ true → place ≤ last_account
           → Sending (sent_in r place (stepped_by a (Rule-Call.call_by o lists taking).account (Rule-Call.call_by o lists taking).answer))
-      by-rule (some n) e o l = refused (numbered n) (rule-high R lists (rule_message m) n e)
+      by-rule (some n) e o l = let z = rule-numbers R lists (rule_message m) n e in refused (numbered n) (omega arith)
       by-rule none e o l = taken (record { known = l; in_order = o; unrefused = e })
 
       by_order : (b : Bool) → in_order_by R a ≡ b → place ≤ last_account

@@ -1,8 +1,8 @@
 -- What the code of a run has at hand is a turn: the register gets the parts of the two slices that are left, and what its call gives is put back. Then the counts fit, and the run
 -- stops at the message, or goes on behind it.
 -- Assumes nothing.
-use Prim.Native.Nat.{ℕ, ◌+◌, ◌-◌, ◌≤◌, ◌<◌, ◌^◌}
-use mathlib.Core.Path.{◌≡◌, sym, ◌∙◌, ap}
+use Prim.Native.Nat.{ℕ, ◌+◌, ◌-◌, ◌<◌, ◌^◌}
+use mathlib.Core.Path.{◌≡◌, ◌∙◌}
 use mathlib.Core.Bool.{true, false}
 use mathlib.Core.List.{List, append-nil}
 use lib.ListN.{length, take, drop}
@@ -18,7 +18,7 @@ use Rattle.message.specs.Bytes.{messages}
 use Rattle.register.specs.declared.Register.{Register}
 use Rattle.register.specs.declared.runs.Ran.{Ran}
 use Rattle.register.specs.declared.runs.Passed.{Passed}
-use Rattle.register.specs.Call.{Reply, Called, called_by}
+use Rattle.register.specs.Call.{Reply, called_by}
 use Rattle.register.specs.Run.{passed_of, one, added, run_by}
 use Rattle.register.specs.Helpers.{Countable}
 use Rattle.register.proofs.Suits.{Suits}

@@ -1,7 +1,7 @@
 -- What a message that is sent, and a call, leave: each by what it comes to. That a refusal's number is from the list is read off the list of tests.
 -- Assumes nothing.
 use Prim.Native.Nat.{ℕ, ◌≤◌}
-use mathlib.Core.Path.{◌≡◌, refl, sym, ◌∙◌, ap, ap₂}
+use mathlib.Core.Path.{◌≡◌, refl, sym, ◌∙◌, ap}
 use mathlib.Core.Bool.{Bool, true, false, cond, ◌&&◌}
 use mathlib.Core.List.{List, [], ◌∷◌, map}
 use mathlib.Core.Option.{none, some}
@@ -11,10 +11,9 @@ use lib.ListN.{length, drop, length-append, length-drop, length-set}
 use lib.Seq.{drop-append_seam, get_or-set_other}
 use borrow.Author.Tests.{leb-true}
 use Rattle.refusal.proofs.Literal.{literal-holds}
-use Rattle.register.proofs.Numbers.{apart}
+use Rattle.register.proofs.Apart.{same-refusal}
 use Rattle.refusal.specs.Numbers.{number_of, numbered}
 use Rattle.std.specs.Prelude.{Ok, Err}
-use Rattle.refusal.specs.declared.Refusal.{Refusal}
 use Rattle.rule.specs.Lists.{every}
 use Rattle.rule.specs.Rule.{Rule}
 use Rattle.rule.specs.Tests.{Test, first_of}
@@ -107,7 +106,7 @@ module _ (R : Rule State Event ℕ) (k : Suits R) (r : Register) (bytes buffer :
     others : (j : ℕ) → (j ≡ account_in bytes → ⊥) → account_at x.register j ≡ account_at r j
 
   changes : {x : Called} → Calling R r bytes buffer x → refusal_of x.reply ≡ none → Changes x
-  changes (refused n why) h = absurd (not_none n h)
+  changes (refused n why) h = absurd (not_none (number_of n) h)
   changes (taken m consumed t) h =
       let i = (heading_of m).account in
       let next = account_of (taking R r m).account in
@@ -130,7 +129,7 @@ module _ (R : Rule State Event ℕ) (k : Suits R) (r : Register) (bytes buffer :
       record { consumed = c.consumed; whole = c.whole; room = c.room; size = c.size; rest = c.rest; count = c.count; others = c.others }
 
 pub replies-apart : RepliesApart
-replies-apart (Err n) (Err k) h c w = ap Err (let z : number_of n ≡ number_of k = cc in apart n k z)
-replies-apart (Err n) (Ok taken) h c w = let z : ◌≡◌ {A = ℕ} 0 1 = cc in absurd (omega arith)
-replies-apart (Ok taken) (Err k) h c w = let z : ◌≡◌ {A = ℕ} 0 1 = cc in absurd (omega arith)
-replies-apart (Ok taken) (Ok taken') h c w = λ i. Ok (record { consumed = c i; written = w i })
+replies-apart (Err n) (Err k) h c w = ap Err (let z : number_of n ≡ number_of k = cc in same-refusal n k z)
+replies-apart (Err n) (Ok done) h c w = let z : ◌≡◌ {A = ℕ} 0 1 = cc in absurd (omega arith)
+replies-apart (Ok done) (Err k) h c w = let z : ◌≡◌ {A = ℕ} 0 1 = cc in absurd (omega arith)
+replies-apart (Ok done) (Ok done') h c w = λ i. Ok (record { consumed = c i; written = w i })

@@ -8,9 +8,10 @@ use native.Mathlib.Omega.{arith}
 use lib.ListN.{length}
 use lib.Seq.{set-get_or}
 use borrow.Author.Tests.{lt-ltb, le-ltb}
+use Rattle.filing.specs.Entries.{entries_of}
 use Rattle.std.specs.Prelude.{Result, Ok, Err}
 use Rattle.refusal.specs.declared.Refusal.{Refusal}
-use Rattle.refusal.specs.declared.Refusal.TheVariants.{NoRoom}
+use Rattle.refusal.specs.declared.Refusal.TheVariants.{UnknownAccount, NoRoom}
 use Rattle.refusal.specs.Numbers.{number_of}
 use Rattle.rule.specs.Rule as rule
 use Rattle.events.specs.declared.Event.{Event}
@@ -29,7 +30,7 @@ use Rattle.entry.specs.Bytes.{bytes_of_entries, list_of}
 use Rattle.entry.specs.Answers.{longest_call, write_of}
 use Rattle.entry.proofs.CallFits.{listed}
 use Rattle.register.specs.declared.Register.{Register}
-use Rattle.register.specs.Register.{nowhere, account_at, with_account, rule_message, sent_as, sent_in, sent_by}
+use Rattle.register.specs.Register.{nowhere, account_at, with_account, rule_message, not_sent, sent_as, sent_in, sent_by}
 use Rattle.register.specs.Call.{refused_with, wrote_as, wrote_of, after_message, called_by}
 use Rattle.register.proofs.Suits.{Suits}
 use Rattle.register.proofs.Sending.{taking, Sending, refused, taken, sending, taken-bytes}
@@ -39,6 +40,11 @@ step-keeps : (R : rule.Rule State Event ℕ) (a : Account) (m : rule.Message Fil
 step-keeps R a m x e = ap (λ (s : Stepped). s.account) (refusal-same R a m (number_of x) (ap refusal_in e))
 
 module _ (R : rule.Rule State Event ℕ) (r : Register) (m : Message) where
+  -- sent to an account that there is not
+  pub sent-nowhere : last_account < (heading_of m).account → sent_by R r m ≡ not_sent r UnknownAccount
+  unfolding sent_by
+  sent-nowhere l = rw (lt-ltb last_account (heading_of m).account l)
+
   -- sent to an account that there is: its step, in its place
   pub sent_is : (heading_of m).account ≤ last_account → sent_by R r m ≡ sent_in r (heading_of m).account (step_by R (account_at r (heading_of m).account) (rule_message m))
   unfolding sent_by
@@ -103,5 +109,5 @@ module _ (R : rule.Rule State Event ℕ) (k : Suits R) (r : Register) (bytes buf
           go : {sent : _} → Sending R r m sent → sent.answer ≡ Ok entries → length (bytes_of_entries i (list_of entries)) ≤ length buffer
           go (refused n high) e = let z : ◌≡◌ {A = ℕ} 0 1 = cc in absurd (omega arith)
           go (taken free) e =
-              let same : entries ≡ _ = cc in
+              let same : entries ≡ entries_of (taking R r m).entries = cc in
               rw (same, listed (taking R r m).entries) (omega (arith, l, taken-bytes R r m k free i))

@@ -1,7 +1,7 @@
 -- The three demands (docs/REGISTER.md, 13), over byte strings, buffers and the answers of the public calls, from the register that `fresh` returns; and what is promised of a run,
 -- which is what is exported. All of it of the first panel.
 -- Assumes nothing.
-use Rattle.std.specs.Prelude.{ℕ, ◌<◌, ◌≤◌, ◌≡◌, true, Ok, Err, List, [], ◌++◌, map, length, drop, set, replicate}
+use Rattle.std.specs.Prelude.{ℕ, ◌<◌, ◌≤◌, ◌≡◌, true, Ok, Err, List, ◌++◌, map, length, drop, set, replicate}
 use Rattle.std.proofs.Math.Option.{Option, none, some}
 use Rattle.refusal.specs.Numbers.{numbered}
 use Rattle.rule.specs.Call.{Answer, refused, taken, call}

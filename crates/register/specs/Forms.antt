@@ -1,5 +1,6 @@
 -- Each reply of a call with what is said of it, what a run makes of it, and what is exported, literally (docs/REGISTER.md, 10.1, 11.1 and 11.5).
 -- Assumes nothing.
+use Rattle.register.specs.declared.Taken.{Taken}
 use Rattle.std.specs.Prelude.{ℕ, ◌+◌, ◌≤◌, ◌≡◌, true, false, Ok, Err, List, [], ◌∷◌, ◌++◌, take}
 use Rattle.std.proofs.Math.Option.{none, some}
 use Rattle.refusal.specs.declared.Refusal.{Refusal}
@@ -12,7 +13,7 @@ use Rattle.register.specs.RunCalls.{refused_among, entries_among}
 
 pub record AnswerForm : Type 0 where
   pub refused : (refusal : Refusal) → (refusal_of (Err refusal) ≡ some (number_of refusal)) × (consumed_of (Err refusal) ≡ 0) × (written_of (Err refusal) ≡ 0)
-  pub taken : (consumed written : ℕ) → let taken = record { consumed = consumed; written = written } in (refusal_of (Ok taken) ≡ none) × (consumed_of (Ok taken) ≡ consumed) × (written_of (Ok taken) ≡ written)
+  pub taken : (consumed written : ℕ) → let taken : Taken = record { consumed = consumed; written = written } in (refusal_of (Ok taken) ≡ none) × (consumed_of (Ok taken) ≡ consumed) × (written_of (Ok taken) ≡ written)
 
 -- what a message comes to: taken it is passed with its entries; refused with 1 or 2 it is the last, and with any other number, whether a run can meet it or not, it is passed by its length (11.5)
 pub record PassedForm (whole : ℕ) : Type 0 where

@@ -1,7 +1,7 @@
 -- The register: its accounts, which a message names by their numbers; a message sent to it as a value; and the outcome question (docs/REGISTER.md, 7, 10.1 and 11.2).
 -- All of it by any rule of the events.
 -- Assumes nothing.
-use Rattle.std.specs.Prelude.{ℕ, suc, cond, Result, Ok, Err, ltb, get_or, set, replicate}
+use Rattle.std.specs.Prelude.{ℕ, suc, cond, Result, Ok, Err, [], ltb, get_or, set, replicate}
 use Rattle.refusal.specs.declared.Refusal.{Refusal}
 use Rattle.refusal.specs.declared.Refusal.TheVariants.{UnknownAccount}
 use Rattle.rule.specs.Rule as rule

@@ -34,7 +34,7 @@ pub data Calls : (bytes buffer : List ℕ) → List Input → List Exchange → 
 -- how many of the calls seen were refused
 abbrev pub refusals : Reply → ℕ
 refusals (Err refusal) = 1
-refusals (Ok taken) = 0
+refusals (Ok done) = 0
 
 abbrev pub refused_among : List Exchange → ℕ
 refused_among [] = 0
@@ -43,7 +43,7 @@ refused_among (x ∷ xs) = refusals x.reply + refused_among xs
 -- the entries of the calls seen, one after the other
 abbrev pub written_part : Reply → (buffer : List ℕ) → List ℕ
 written_part (Err refusal) buffer = []
-written_part (Ok taken) buffer = take taken.written buffer
+written_part (Ok done) buffer = take done.written buffer
 
 abbrev pub entries_among : List Exchange → List ℕ
 entries_among [] = []

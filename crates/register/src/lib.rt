@@ -64,7 +64,11 @@ impl Register {
             return Err(Refusal::NoRoom);
         }
         let entries = self.send(message)?;
-        let written = entry::write_entries(entries.as_slice(), message::account_of(message), buffer)?;
+        let written = entry::write_entries(
+            entries.as_slice(),
+            message::account_of(message),
+            buffer,
+        )?;
         Ok(Taken { consumed, written })
     }
 
@@ -85,7 +89,11 @@ fn step(account: &mut Account, message: Message) -> Result<Entries, Refusal>
     ensures account { account.new ≡ (step_of account.old (rule_message message)).account }
 {
     match message {
-        Message::Request(heading, event) => account.request(heading.transaction, heading.filed, event),
+        Message::Request(heading, event) => account.request(
+            heading.transaction,
+            heading.filed,
+            event,
+        ),
         Message::Commit(heading) => account.commit(heading.transaction, heading.filed),
         Message::Abort(heading) => account.abort(heading.transaction, heading.filed),
     }
