@@ -113,7 +113,7 @@ fn voted(verdict: Verdict, numbers: [u32; layout::FIELDS]) -> Option<Told>
     Some(Told::Voted(event(numbers[4], numbers[5])?, weighing))
 }
 
-// The event of a kind and an amount, which a close has not.
+// The event of a kind and an amount, if there is one: a close has the amount 0.
 #[tactic(auto, unfolding(events::specs::Kinds::event_of))]
 fn event(kind: u32, amount: u32) -> Option<Event>
     ensures { result ≡ event_in kind amount }
