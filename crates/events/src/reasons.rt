@@ -40,7 +40,9 @@ impl Event {
             Event::Withdraw(0) | Event::Deposit(0) => Some(Reason::ZeroAmount),
             Event::Withdraw(amount) if state.balance < amount => Some(Reason::TooFew),
             Event::Open(amount) if State::LIMIT < amount => Some(Reason::OverLimit),
-            Event::Deposit(amount) if State::LIMIT < state.balance.saturating_add(amount) => Some(Reason::OverLimit),
+            Event::Deposit(amount) if State::LIMIT < state.balance.saturating_add(amount) => {
+                Some(Reason::OverLimit)
+            }
             _ => None,
         }
     }

@@ -77,7 +77,7 @@ impl Filed {
     pub fn is_blank(self) -> bool
         ensures { result ≡ is_blank_filed self }
     {
-        self.second == 0
+        self == Filed::BLANK
     }
 }
 
@@ -86,10 +86,7 @@ impl Decision {
     pub fn is_undecided(self) -> bool
         ensures { result ≡ is_undecided self }
     {
-        match self {
-            Decision::Undecided => true,
-            Decision::Committed => false,
-        }
+        matches!(self, Decision::Undecided)
     }
 }
 
@@ -109,23 +106,16 @@ impl Slot {
     pub fn is_blank(self) -> bool
         ensures { result ≡ is_blank self }
     {
-        let filed = self.filed;
-        let event = self.event;
-        let decision = self.decision;
-        (self.transaction == 0) && filed.is_blank() && event.is_blank() && decision.is_undecided()
+        self == Slot::BLANK
     }
 
     // The place, committed.
     pub fn committed(self) -> Slot
         ensures { result ≡ committed_slot self }
     {
-        let filed = self.filed;
-        let event = self.event;
         Slot {
-            transaction: self.transaction,
-            filed,
-            event,
             decision: Decision::Committed,
+            ..self
         }
     }
 }
@@ -135,22 +125,14 @@ impl Verdict {
     pub fn is_accepted(self) -> bool
         ensures { result ≡ is_accepted self }
     {
-        match self {
-            Verdict::Accepted => true,
-            Verdict::Rejected => false,
-            Verdict::Held => false,
-        }
+        matches!(self, Verdict::Accepted)
     }
 
     // Whether it is to hold.
     pub fn is_held(self) -> bool
         ensures { result ≡ is_held self }
     {
-        match self {
-            Verdict::Accepted => false,
-            Verdict::Rejected => false,
-            Verdict::Held => true,
-        }
+        matches!(self, Verdict::Held)
     }
 }
 
@@ -175,12 +157,10 @@ impl Entry {
     pub fn voted(slot: Slot, weighing: Weighing) -> Entry
         ensures { result ≡ entry_of (rule.voted slot.transaction slot.filed slot.event (weighing_of weighing)) }
     {
-        let filed = slot.filed;
-        let event = slot.event;
         Entry {
             transaction: slot.transaction,
-            filed,
-            told: Told::Voted(event, weighing),
+            filed: slot.filed,
+            told: Told::Voted(slot.event, weighing),
         }
     }
 
@@ -199,12 +179,10 @@ impl Entry {
     pub fn applied(slot: Slot, balance: u32) -> Entry
         ensures { result ≡ entry_of (rule.applied slot.transaction slot.filed slot.event balance) }
     {
-        let filed = slot.filed;
-        let event = slot.event;
         Entry {
             transaction: slot.transaction,
-            filed,
-            told: Told::Applied(event, balance),
+            filed: slot.filed,
+            told: Told::Applied(slot.event, balance),
         }
     }
 
@@ -212,12 +190,10 @@ impl Entry {
     pub fn dropped(slot: Slot) -> Entry
         ensures { result ≡ entry_of (rule.dropped slot.transaction slot.filed slot.event) }
     {
-        let filed = slot.filed;
-        let event = slot.event;
         Entry {
             transaction: slot.transaction,
-            filed,
-            told: Told::Dropped(event),
+            filed: slot.filed,
+            told: Told::Dropped(slot.event),
         }
     }
 }
@@ -236,12 +212,12 @@ impl Entries {
     pub fn only(entry: Entry) -> Entries
         ensures { result ≡ only_entry entry }
     {
-        let mut at = [Entry::BLANK; Entries::MOST];
-        at[0] = entry;
-        Entries { at, count: 1 }
+        let mut only = Entries::NONE;
+        only.push(entry);
+        only
     }
 
-    // The entries, as a slice.
+    // The entries that were written, as a slice.
     pub fn as_slice(&self) -> &[Entry]
         ensures { result.now ≡ take self.now.count self.now.at }
     {
