@@ -6,6 +6,7 @@ use native.Mathlib.Omega.{arith}
 use mathlib.Core.Path.{◌≡◌, refl, ◌∙◌}
 use mathlib.Core.Bool.{Bool, true, false, cond}
 use mathlib.Core.List.{List, [], ◌∷◌, ◌++◌, append_assoc}
+use Rattle.std.specs.Prelude.{Ok}
 use borrow.Author.Tests.{lt-ltb, le-ltb}
 use lib.Dec.{ltb, lit<, lit≤}
 use lib.ListN.{length, length-append}
@@ -18,9 +19,9 @@ use Rattle.filing.specs.declared.Verdict.TheVariants.{Accepted, Rejected, Held}
 use Rattle.filing.specs.declared.Told.{Told}
 use Rattle.filing.specs.declared.Told.TheVariants.{Voted, Noted, Applied, Dropped}
 use Rattle.filing.specs.declared.Entry.{Entry}
-use Rattle.layout.specs.declared.Writing.TheVariants as Writing'
+use Rattle.refusal.specs.declared.Refusal.TheVariants.{NoRoom}
 use Rattle.entry.specs.Inverse.{reason_in}
-use Rattle.layout.specs.Answers.{wrote_over, refused_with}
+use Rattle.layout.specs.Writes.{wrote_over, refused_with}
 use Rattle.layout.proofs.Stores.{laid-over}
 use Rattle.text.specs.Text.{decimal_in, decimal, vote_name, name_of, event_name, heading_fields, reason_fields, then_fields, spaced, line_as, is_older, longest_line, kept, write_line_of}
 use Rattle.text.proofs.Texts.{grown, fields-grown, kept-still}
@@ -171,14 +172,14 @@ module _ (account : ℕ) (e : Entry) where
 
 -- ---- the ways out
 
-pub write-small : (e : Entry) (kind account : ℕ) (l : List ℕ) → length l < longest_line → write_line_of e kind account l ≡ refused_with 4 l
+pub write-small : (e : Entry) (kind account : ℕ) (l : List ℕ) → length l < longest_line → write_line_of e kind account l ≡ refused_with NoRoom l
 unfolding write_line_of
 write-small e kind account l h = rw (lt-ltb (length l) longest_line h)
 
 -- and where it has room it is what the writer gives
 pub write-line : (e : Entry) (kind account d : ℕ) (l l₁ : List ℕ) → longest_line ≤ length l → d ≤ longest_line
     → d ≡ length (line_as (is_older kind) account e) → l₁ ≡ sets l 0 (line_as (is_older kind) account e)
-    → (Writing'.Written d ≡ (write_line_of e kind account l).answer) × (l₁ ≡ (write_line_of e kind account l).buffer)
+    → (Ok d ≡ (write_line_of e kind account l).answer) × (l₁ ≡ (write_line_of e kind account l).buffer)
 unfolding write_line_of
 write-line e kind account d l l₁ room short size stored =
     let line = line_as (is_older kind) account e in

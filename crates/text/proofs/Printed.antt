@@ -18,8 +18,8 @@ use Rattle.filing.specs.declared.Verdict.{Verdict}
 use Rattle.filing.specs.declared.Verdict.TheVariants.{Accepted, Rejected, Held}
 use Rattle.filing.specs.declared.Told.{Told}
 use Rattle.filing.specs.declared.Told.TheVariants.{Voted, Noted, Applied, Dropped}
-use Rattle.layout.specs.Answers.{wrote_over}
-use Rattle.layout.proofs.Answers.{wrote-stays, cond-stays}
+use Rattle.layout.specs.Writes.{wrote_over}
+use Rattle.layout.proofs.Writes.{wrote-stays, cond-stays}
 use Rattle.text.specs.Text.{decimal_in, decimal, vote_name, name_of, event_name, heading_fields, reason_fields, then_fields, spaced, line_as, line_of, lines_of, longest_line, write_line_of}
 use Rattle.text.specs.Quoted.{quoted}
 use Rattle.text.specs.Lines.{field, event_text, heading_text, WordsPlain, LinesPlain, OlderPlain, LinesTogether, Ended, LinesEnd, LinesFit, LineReadBack, LineRefuses, LineStays}

@@ -5,9 +5,8 @@
 use Rattle.std.specs.Prelude.{ℕ, ◌*◌, ◌≤◌, ◌<◌, ◌≡◌, List, [], ◌∷◌, ◌++◌, length, take}
 use Rattle.filing.specs.declared.Entry.{Entry}
 use Rattle.layout.specs.Number.{AreBytes}
-use Rattle.entry.specs.declared.EntryReading.TheVariants.{Found}
 use Rattle.entry.specs.Bytes.{bytes_of_entry, bytes_of_entries}
-use Rattle.entry.specs.Answers.{read_of}
+use Rattle.entry.specs.Answers.{read_of, found_as}
 use Rattle.register.specs.declared.Register.{Register}
 use Rattle.register.specs.declared.Reply.TheVariants.{Refused, Taken}
 use Rattle.register.specs.Call.{Result, refusal_of, consumed_of}
@@ -44,7 +43,7 @@ TurnIsCall = (r : Register) (bytes buffer : List ℕ) → 323 ≤ length buffer 
 -- bytes that are entries, one after the other and nothing else, each the one that is read there, and their lines
 pub data EntryLines : (bytes text : List ℕ) → Type 0 where
   none : EntryLines [] []
-  more : {bytes text : List ℕ} (account : ℕ) (e : Entry) (kind whole : ℕ) → read_of (bytes_of_entry account e ++ bytes) ≡ Found e kind account whole
+  more : {bytes text : List ℕ} (account : ℕ) (e : Entry) (kind whole : ℕ) → read_of (bytes_of_entry account e ++ bytes) ≡ found_as e kind account whole
       → EntryLines bytes text → EntryLines (bytes_of_entry account e ++ bytes) (line_of account e ++ text)
 
 -- the text of a call that is seen

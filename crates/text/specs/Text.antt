@@ -10,7 +10,8 @@ use Rattle.filing.specs.declared.Verdict.TheVariants.{Accepted, Rejected, Held}
 use Rattle.filing.specs.declared.Told.{Told}
 use Rattle.filing.specs.declared.Told.TheVariants.{Voted, Noted, Applied, Dropped}
 use Rattle.filing.specs.declared.Entry.{Entry}
-use Rattle.layout.specs.Answers.{Wrote, wrote_over, refused_with}
+use Rattle.refusal.specs.declared.Refusal.TheVariants.{NoRoom}
+use Rattle.layout.specs.Writes.{Wrote, wrote_over, refused_with}
 
 -- the digits of a number, highest first, at most as many as `places` says
 unfoldable pub decimal_in : (places number : ℕ) → List ℕ
@@ -91,7 +92,7 @@ is_older kind = eqb kind 18
 
 -- the writer of the line of an entry that stands in that kind: 4 where the buffer is too short for the longest
 unfoldable pub write_line_of : Entry → (kind account : ℕ) (buffer : List ℕ) → Wrote
-write_line_of e kind account buffer = cond (ltb (length buffer) longest_line) (refused_with 4 buffer) (wrote_over (line_as (is_older kind) account e) buffer)
+write_line_of e kind account buffer = cond (ltb (length buffer) longest_line) (refused_with NoRoom buffer) (wrote_over (line_as (is_older kind) account e) buffer)
 
 -- text that was stored from `at` on, of at most so many bytes, and the place after it
 pub record Put (text : List ℕ) (at most : ℕ) (before : List ℕ) (next : ℕ) (after : List ℕ) : Type 0 where

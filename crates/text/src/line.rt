@@ -5,21 +5,23 @@ ghost use Rattle.events.specs.Kinds.{amount_of};
 ghost use Rattle.text.specs.Text.{decimal, event_name, spaced, line_as, longest_line, kept, write_line_of};
 
 use crate::{LONGEST_LINE, words};
+use entry::Found;
 use events::Event;
 use filing::{Entry, Told, Verdict, Weighing};
-use layout::Writing;
+use refusal::Refusal;
 use std::marker::Model;
 
-// Writes the line of an entry of that account, which stands in that kind, to the beginning of a buffer: of a rejection in kind 18 without a reason.
-pub fn write_line(entry: Entry, kind: u8, account: u16, buffer: &mut [u8]) -> Writing
-    ensures { (result ≡ (write_line_of entry kind account buffer.old).answer) × (buffer.new ≡ (write_line_of entry kind account buffer.old).buffer) }
+// Writes the line of an entry as it was found to the beginning of a buffer: of a rejection in kind 18 without a reason.
+pub fn write_line(found: Found, buffer: &mut [u8]) -> Result<usize, Refusal>
+    ensures answer { result ≡ (write_line_of found.entry found.kind found.account buffer.old).answer }
+    ensures buffer { buffer.new ≡ (write_line_of found.entry found.kind found.account buffer.old).buffer }
 {
     if buffer.len() < LONGEST_LINE {
-        return Writing::Refused(4);
+        return Err(Refusal::NoRoom);
     }
-    let line = Line::of(entry, kind == 18, account);
+    let line = Line::of(found.entry, found.kind == 18, found.account);
     store(buffer, 0, line.as_slice());
-    Writing::Written(line.len())
+    Ok(line.len())
 }
 
 // Stores text from `at` on; a byte past the end is not stored.
