@@ -45,28 +45,24 @@ pub fn begin(input: &[u8], out: &mut [u8]) -> Served
 }
 
 // Sends the next message to the register: its text, and what has been served then. Where there is none nothing changes.
-pub fn serve(served: Served, input: &[u8], out: &mut [u8]) -> Served
+pub fn serve(mut served: Served, input: &[u8], out: &mut [u8]) -> Served
     ensures { Serves served input.now out.old result out.new }
 {
-    let from = served.from;
-    if input.len() <= from {
+    if input.len() <= served.from {
         return Served {
             written: 0,
             ..served
         };
     }
-    let rest = &input[from..];
-    let turned = turns::read_turn(served.register, message::read_message(rest), out);
-    let passed = register::passed_by(
-        turned.reply,
-        message::whole_length(layout::number1(rest, 0)),
-    );
+    let rest = &input[served.from..];
+    let turned = turns::turn(&mut served.register, rest, out);
+    let passed = register::passed_by(turned.reply, message::whole_length(rest[0]));
     Served {
-        register: turned.register,
-        from: start_after(from, passed, input.len()),
+        from: start_after(served.from, passed, input.len()),
         met: counted_by(served.met, 1),
         refused: counted_by(served.refused, passed.refused),
         written: turned.written,
+        ..served
     }
 }
 
