@@ -21,10 +21,10 @@ use Rattle.filing.specs.declared.Told.TheVariants.{Voted, Noted, Applied, Droppe
 use Rattle.filing.specs.declared.Entry.{Entry}
 use Rattle.refusal.specs.declared.Refusal.TheVariants.{NoRoom}
 use Rattle.entry.specs.Inverse.{reason_in}
-use Rattle.layout.specs.Writes.{wrote_over, refused_with}
+use Rattle.layout.specs.Writes.{laid_over, wrote_over, refused_with}
 use Rattle.layout.proofs.Stores.{laid-over}
 use Rattle.text.specs.Text.{decimal_in, decimal, vote_name, name_of, event_name, heading_fields, reason_fields, then_fields, spaced, line_as, is_older, longest_line, kept, write_line_of}
-use Rattle.text.proofs.Texts.{grown, fields-grown, kept-still}
+use Rattle.text.proofs.Texts.{grown, fields_grown, kept-still}
 
 -- ---- lengths
 
@@ -124,7 +124,7 @@ module _ (e : Event) (l l₁ : List ℕ) (p : l₁ ≡ kept (l ++ spaced (event_
     applied-behind =
         record {
           short = le_trans (event-fields e (decimal number ∷ []) 11 (number-field number)) (lit≤ tt);
-          grown = fields-grown (event_name e ∷ decimal (amount_of e) ∷ []) (decimal number ∷ []) l l₁ l₂ p q;
+          grown = fields_grown (event_name e ∷ decimal (amount_of e) ∷ []) (decimal number ∷ []) l l₁ l₂ p q;
         }
 
     -- and a reason behind the number: a byte has three digits at most
@@ -133,7 +133,7 @@ module _ (e : Event) (l l₁ : List ℕ) (p : l₁ ≡ kept (l ++ spaced (event_
     reason-behind reason m h r =
         record {
           short = event-fields e (decimal number ∷ decimal reason ∷ []) 15 (spaced-length (decimal number) (decimal reason ∷ []) 10 4 (places-length 10 number) (reason-length false Rejected reason h));
-          grown = fields-grown (event_name e ∷ decimal (amount_of e) ∷ decimal number ∷ []) (decimal reason ∷ []) l l₂ m applied-behind.grown r;
+          grown = fields_grown (event_name e ∷ decimal (amount_of e) ∷ decimal number ∷ []) (decimal reason ∷ []) l l₂ m applied-behind.grown r;
         }
 
 pub noted-behind : (xs l : List ℕ) → l ≡ kept xs → Behind l l []
@@ -156,7 +156,7 @@ module _ (account : ℕ) (e : Entry) where
       let s = decimal e.filed.second ∷ [] in
       let first : l₁ ≡ kept ([] ++ name_of e.told) = rw p₀ at p₁ in
       grown (name_of e.told) (spaced (t ++ (a ++ s))) [] l₁ l₄ first
-      (fields-grown t (a ++ s) l₁ l₂ l₄ p₂ (fields-grown a s l₂ l₃ l₄ p₃ p₄))
+      (fields_grown t (a ++ s) l₁ l₂ l₄ p₂ (fields_grown a s l₂ l₃ l₄ p₃ p₄))
 
   -- the rest, and the newline: the line is no longer than the longest
   pub line-grown : (older : Bool) (l₄ l₅ l₆ : List ℕ) → account < 65536
@@ -185,3 +185,6 @@ write-line e kind account d l l₁ room short size stored =
     let line = line_as (is_older kind) account e in
     let t : write_line_of e kind account l ≡ wrote_over line l = rw (le-ltb (length l) longest_line room) in
     (rw (t, size), rw t (stored ∙ laid-over line l (omega arith)))
+
+pub line_stored : (line l l₁ : List ℕ) → length line ≤ longest_line → longest_line ≤ length l → l₁ ≡ sets l 0 line → l₁ ≡ laid_over line l
+line_stored line l l₁ short room stored = stored ∙ laid-over line l (omega arith)

@@ -20,7 +20,7 @@ use Rattle.text.specs.Text.{decimal, spaced, line_of, lines_of, longest_line, ke
 use Rattle.text.specs.Quoted.{quoted}
 use Rattle.text.specs.Output.{longest_input, first_line, too_long, refused_line, last_line}
 use Rattle.text.specs.Program.{longest_text, begin_text, begin_of, finish_text, TextAtTheBeginning}
-use Rattle.text.proofs.Texts.{grown, fields-grown}
+use Rattle.text.proofs.Texts.{grown, fields_grown}
 use Rattle.text.proofs.Lines.{places-length}
 
 -- text from the beginning of a buffer on ends at its length
@@ -35,25 +35,12 @@ text-at-the-beginning text most before next after p room =
     (h, rw (laid, n) (take-append_seam text (drop (length text) before)), rw (laid, n) (drop-append_seam text (drop (length text) before)))
 
 -- text that was stored from the beginning of a buffer on
-pub put-stored : (text : List ℕ) (most next : ℕ) (l l₁ : List ℕ) → next ≡ length text → next ≤ most → l₁ ≡ sets l 0 text → Put text 0 most l next l₁
-put-stored text most next l l₁ n h stored = record { place = n ∙ sym (zero-add (length text)); within = omega arith; stored = stored }
+pub put_stored : (text : List ℕ) (most next : ℕ) (l l₁ : List ℕ) → next ≡ length text → next ≤ most → l₁ ≡ sets l 0 text → Put text 0 most l next l₁
+put_stored text most next l l₁ n h stored = record { place = n ∙ sym (zero-add (length text)); within = omega arith; stored = stored }
 
 -- none
 pub put-nothing : (most : ℕ) (l : List ℕ) → Put [] 0 most l 0 l
-put-nothing most l = put-stored [] most 0 l l refl (omega arith) refl
-
--- ---- the beginning
-
-module _ (input l l₁ : List ℕ) (register : Register) (fresh : register ≡ fresh_register) where
-  pub begins : length input ≤ longest_input → l₁ ≡ sets l 0 (quoted "register 1\n")
-      → (◌≡◌ {A = Served} (record { register = register; from = 0; met = 0; refused = 0; written = 11 }) (begin_of input)) × Put (begin_text input) 0 20 l 11 l₁
-  unfolding first_line quoted
-  begins h stored = rw (le-ltb longest_input (length input) h) (rw fresh, put-stored (quoted "register 1\n") 20 11 l l₁ refl (lit≤ tt) stored)
-
-  pub begins-long : longest_input < length input → l₁ ≡ sets l 0 (quoted "register 1\ntoo long\n")
-      → (◌≡◌ {A = Served} (record { register = register; from = length input; met = 0; refused = 0; written = 20 }) (begin_of input)) × Put (begin_text input) 0 20 l 20 l₁
-  unfolding first_line too_long quoted
-  begins-long h stored = rw (lt-ltb longest_input (length input) h) (rw fresh, put-stored (quoted "register 1\ntoo long\n") 20 20 l l₁ refl (lit≤ tt) stored)
+put-nothing most l = put_stored [] most 0 l l refl (omega arith) refl
 
 -- ---- a refusal, and the last line: a word, numbers, and the newline
 
@@ -82,7 +69,7 @@ module _ (l₀ l₁ l₂ l₃ : List ℕ) (p₀ : l₀ ≡ []) where
       → l₃ ≡ kept (l₂ ++ 10 ∷ []) → l₃ ≡ last_line met refused
   unfolding last_line quoted
   last-line met refused l p₁ q r p₃ =
-      word-line (quoted "end") (decimal met ∷ decimal refused ∷ []) l₀ l₁ l₂ l₃ p₀ p₁ (fields-grown (decimal met ∷ []) (decimal refused ∷ []) l₁ l l₂ q r) p₃
+      word-line (quoted "end") (decimal met ∷ decimal refused ∷ []) l₀ l₁ l₂ l₃ p₀ p₁ (fields_grown (decimal met ∷ []) (decimal refused ∷ []) l₁ l l₂ q r) p₃
       (le_trans (last-length met refused) (lit≤ tt))
 
 module _ (s : Served) (input : List ℕ) where
@@ -90,10 +77,16 @@ module _ (s : Served) (input : List ℕ) where
       → Put (finish_text s input) 0 26 l next l₁
   finishes next l l₁ h n stored =
       let fits = last-length s.met s.refused in
-      rw (le-ltb longest_input (length input) h) (put-stored (last_line s.met s.refused) 26 next l l₁ n (omega arith) stored)
+      rw (le-ltb longest_input (length input) h) (put_stored (last_line s.met s.refused) 26 next l l₁ n (omega arith) stored)
 
   pub finishes-long : (l : List ℕ) → longest_input < length input → Put (finish_text s input) 0 26 l 0 l
   finishes-long l h = rw (lt-ltb longest_input (length input) h) (put-nothing 26 l)
+
+-- the letters as the code has them
+pub refusal_grown : (number : ℕ) (l₀ l₁ l₂ l₃ : List ℕ) → l₀ ≡ [] → l₁ ≡ kept (l₀ ++ (114 ∷ 101 ∷ 102 ∷ 117 ∷ 115 ∷ 101 ∷ 100 ∷ [])) → l₂ ≡ kept (l₁ ++ spaced (decimal number ∷ []))
+    → l₃ ≡ kept (l₂ ++ 10 ∷ []) → (l₃ ≡ refused_line number) × (length (refused_line number) ≤ 19)
+unfolding quoted
+refusal_grown number l₀ l₁ l₂ l₃ p₀ p₁ p₂ p₃ = (refusal-line l₀ l₁ l₂ l₃ p₀ number p₁ p₂ p₃, refusal-length number)
 
 -- ---- the lines of a call
 
@@ -131,4 +124,4 @@ pub lined-all : (entries : List Entry) (account : ℕ) (before after : List ℕ)
     → Lined entries account before after at i → Put (lines_of account entries) 0 longest_text before at after
 lined-all entries account before after at i few passed all u =
     let these : take i entries ≡ entries = take_all i entries all in
-    put-stored (lines_of account entries) longest_text at before after (rw these at u.place) (omega (arith, u.room)) (rw these at u.stored)
+    put_stored (lines_of account entries) longest_text at before after (rw these at u.place) (omega (arith, u.room)) (rw these at u.stored)
