@@ -6,20 +6,18 @@ use native.Mathlib.Nat.{zero-add, le_trans}
 use native.Mathlib.Omega.{arith}
 use mathlib.Core.Path.{◌≡◌, refl, sym, ◌∙◌}
 use mathlib.Core.List.{List, [], ◌∷◌, ◌++◌, append-nil, append_assoc}
-use borrow.Author.Tests.{lt-ltb, le-ltb}
+use borrow.Author.Tests.{le-ltb}
 use lib.Dec.{lit≤}
 use lib.ListN.{length, get_or, take, drop, length-append}
 use lib.Seq.{sets, take_all, take-append_seam, drop-append_seam}
 use Rattle.std.proofs.lemmas.List.{take_more}
 use Rattle.filing.specs.declared.Entry.{Entry}
 use Rattle.layout.proofs.Stores.{sets_more, laid-over}
-use Rattle.register.specs.declared.Register.{Register}
-use Rattle.register.specs.First.{fresh_register}
 use Rattle.text.specs.declared.program.Served.{Served}
 use Rattle.text.specs.Text.{decimal, spaced, line_of, lines_of, longest_line, kept, Put}
 use Rattle.text.specs.Quoted.{quoted}
-use Rattle.text.specs.Output.{longest_input, first_line, too_long, refused_line, last_line}
-use Rattle.text.specs.Program.{longest_text, begin_text, begin_of, finish_text, TextAtTheBeginning}
+use Rattle.text.specs.Output.{longest_input, refused_line, last_line}
+use Rattle.text.specs.Program.{finish_text, TextAtTheBeginning}
 use Rattle.text.proofs.Texts.{grown, fields_grown}
 use Rattle.text.proofs.Lines.{places-length}
 
@@ -49,7 +47,7 @@ pub word-line : (word : List ℕ) (fields : List (List ℕ)) (l₀ l₁ l₂ l�
 word-line word fields l₀ l₁ l₂ l₃ p₀ p₁ p₂ p₃ short =
     let first : l₁ ≡ kept ([] ++ word) = rw p₀ at p₁ in
     let all : l₃ ≡ kept ([] ++ (word ++ (spaced fields ++ (10 ∷ [])))) =
-        grown word (spaced fields ++ (10 ∷ [])) [] l₁ l₃ first (grown (spaced fields) (10 ∷ []) l₁ l₂ l₃ p₂ p₃) in
+    grown word (spaced fields ++ (10 ∷ [])) [] l₁ l₃ first (grown (spaced fields) (10 ∷ []) l₁ l₂ l₃ p₂ p₃) in
     all ∙ take_all longest_line (word ++ (spaced fields ++ (10 ∷ []))) short
 
 pub refusal-length : (number : ℕ) → length (refused_line number) ≤ 19
@@ -60,17 +58,20 @@ pub last-length : (met refused : ℕ) → length (last_line met refused) ≤ 26
 unfolding last_line quoted
 last-length met refused = let m = places-length 10 met in let n = places-length 10 refused in simp length-append (omega arith)
 
-module _ (l₀ l₁ l₂ l₃ : List ℕ) (p₀ : l₀ ≡ []) where
-  pub refusal-line : (number : ℕ) → l₁ ≡ kept (l₀ ++ quoted "refused") → l₂ ≡ kept (l₁ ++ spaced (decimal number ∷ [])) → l₃ ≡ kept (l₂ ++ 10 ∷ []) → l₃ ≡ refused_line number
-  unfolding refused_line quoted
-  refusal-line number p₁ p₂ p₃ = word-line (quoted "refused") (decimal number ∷ []) l₀ l₁ l₂ l₃ p₀ p₁ p₂ p₃ (le_trans (refusal-length number) (lit≤ tt))
+-- the letters of the words stand here as in the code
+pub refusal_grown : (number : ℕ) (l₀ l₁ l₂ l₃ : List ℕ) → l₀ ≡ [] → l₁ ≡ kept (l₀ ++ (114 ∷ 101 ∷ 102 ∷ 117 ∷ 115 ∷ 101 ∷ 100 ∷ [])) → l₂ ≡ kept (l₁ ++ spaced (decimal number ∷ []))
+    → l₃ ≡ kept (l₂ ++ 10 ∷ []) → (l₃ ≡ refused_line number) × (length (refused_line number) ≤ 19)
+unfolding refused_line quoted
+refusal_grown number l₀ l₁ l₂ l₃ p₀ p₁ p₂ p₃ =
+    let short = refusal-length number in
+    (word-line (quoted "refused") (decimal number ∷ []) l₀ l₁ l₂ l₃ p₀ p₁ p₂ p₃ (le_trans short (lit≤ tt)), short)
 
-  pub last-line : (met refused : ℕ) (l : List ℕ) → l₁ ≡ kept (l₀ ++ quoted "end") → l ≡ kept (l₁ ++ spaced (decimal met ∷ [])) → l₂ ≡ kept (l ++ spaced (decimal refused ∷ []))
-      → l₃ ≡ kept (l₂ ++ 10 ∷ []) → l₃ ≡ last_line met refused
-  unfolding last_line quoted
-  last-line met refused l p₁ q r p₃ =
-      word-line (quoted "end") (decimal met ∷ decimal refused ∷ []) l₀ l₁ l₂ l₃ p₀ p₁ (fields_grown (decimal met ∷ []) (decimal refused ∷ []) l₁ l l₂ q r) p₃
-      (le_trans (last-length met refused) (lit≤ tt))
+pub last-line : (met refused : ℕ) (l₀ l₁ l l₂ l₃ : List ℕ) → l₀ ≡ [] → l₁ ≡ kept (l₀ ++ (101 ∷ 110 ∷ 100 ∷ [])) → l ≡ kept (l₁ ++ spaced (decimal met ∷ []))
+    → l₂ ≡ kept (l ++ spaced (decimal refused ∷ [])) → l₃ ≡ kept (l₂ ++ 10 ∷ []) → l₃ ≡ last_line met refused
+unfolding last_line quoted
+last-line met refused l₀ l₁ l l₂ l₃ p₀ p₁ q r p₃ =
+    word-line (quoted "end") (decimal met ∷ decimal refused ∷ []) l₀ l₁ l₂ l₃ p₀ p₁ (fields_grown (decimal met ∷ []) (decimal refused ∷ []) l₁ l l₂ q r) p₃
+    (le_trans (last-length met refused) (lit≤ tt))
 
 module _ (s : Served) (input : List ℕ) where
   pub finishes : (next : ℕ) (l l₁ : List ℕ) → length input ≤ longest_input → next ≡ length (last_line s.met s.refused) → l₁ ≡ sets l 0 (last_line s.met s.refused)
@@ -78,15 +79,6 @@ module _ (s : Served) (input : List ℕ) where
   finishes next l l₁ h n stored =
       let fits = last-length s.met s.refused in
       rw (le-ltb longest_input (length input) h) (put_stored (last_line s.met s.refused) 26 next l l₁ n (omega arith) stored)
-
-  pub finishes-long : (l : List ℕ) → longest_input < length input → Put (finish_text s input) 0 26 l 0 l
-  finishes-long l h = rw (lt-ltb longest_input (length input) h) (put-nothing 26 l)
-
--- the letters as the code has them
-pub refusal_grown : (number : ℕ) (l₀ l₁ l₂ l₃ : List ℕ) → l₀ ≡ [] → l₁ ≡ kept (l₀ ++ (114 ∷ 101 ∷ 102 ∷ 117 ∷ 115 ∷ 101 ∷ 100 ∷ [])) → l₂ ≡ kept (l₁ ++ spaced (decimal number ∷ []))
-    → l₃ ≡ kept (l₂ ++ 10 ∷ []) → (l₃ ≡ refused_line number) × (length (refused_line number) ≤ 19)
-unfolding quoted
-refusal_grown number l₀ l₁ l₂ l₃ p₀ p₁ p₂ p₃ = (refusal-line l₀ l₁ l₂ l₃ p₀ number p₁ p₂ p₃, refusal-length number)
 
 -- ---- the lines of a call
 
@@ -119,9 +111,3 @@ module _ (entries : List Entry) (account : ℕ) (before after : List ℕ) (at i 
         place = rw (more, length-append) (omega (arith, u.place, n));
         stored = rw more (sets_more done line before after after' 0 at (sym u.place) u.stored (rw (sym (zero-add at)) at stored));
       }
-
-pub lined-all : (entries : List Entry) (account : ℕ) (before after : List ℕ) (at i : ℕ) → length entries ≤ 17 → i ≤ length entries → length entries ≤ i
-    → Lined entries account before after at i → Put (lines_of account entries) 0 longest_text before at after
-lined-all entries account before after at i few passed all u =
-    let these : take i entries ≡ entries = take_all i entries all in
-    put_stored (lines_of account entries) longest_text at before after (rw these at u.place) (omega (arith, u.room)) (rw these at u.stored)

@@ -63,7 +63,11 @@ impl Line {
         line.put_number(entry.filed.second);
         match entry.told {
             Told::Voted(event, vote) => {
-                let Weighing { verdict, weighed, reason } = vote;
+                let Weighing {
+                    verdict,
+                    weighed,
+                    reason,
+                } = vote;
                 line.put_event(event);
                 line.put_number(weighed);
                 if verdict == Verdict::Rejected && !older {

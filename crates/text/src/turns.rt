@@ -28,7 +28,10 @@ pub(crate) fn turn(register: &mut Register, bytes: &[u8], out: &mut [u8]) -> Tur
 {
     match sent(register, bytes) {
         Ok((entries, account, consumed)) => Turned {
-            reply: Ok(Taken { consumed, written: 0 }),
+            reply: Ok(Taken {
+                consumed,
+                written: 0,
+            }),
             written: put_lines(out, entries, account),
         },
         Err(refusal) => Turned {
