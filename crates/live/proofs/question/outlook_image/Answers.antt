@@ -17,7 +17,6 @@ pub returns : goal.returns
 unfolding look_by asked_by
 returns c =
     let a = c.args in
-    let words = a.image.now in
     let within = c.if-account-gt-LAST_ACCOUNT.false in
-    let is = c.read_account-named.ensures ∙ ap (account_from words) c.word_at.ensures in
-    rw (le-ltb last_account a.account within, account-of-image words a.account (omega arith), ← is) c.outlook.ensures
+    rw (le-ltb last_account a.account within, account-of-image a.image.now a.account (omega arith))
+    (rw (c.read_account.ensures, c.word_at.ensures) at c.outlook.ensures)
