@@ -1,29 +1,36 @@
 -- What is said of an answer tells the answers apart: by cases.
 -- Assumes nothing.
 use Prim.Native.Nat.{ℕ}
-use mathlib.Core.Path.{◌≡◌, refl, ap, ap₂}
+use mathlib.Core.Path.{◌≡◌, sym, ap, ap₂, ◌∙◌}
 use native.Mathlib.Omega.{arith}
-use Rattle.account.specs.declared.Answer.TheVariants as Answer'
-use Rattle.account.specs.declared.Outlook.TheVariants as Outlook'
+use Rattle.std.specs.Prelude.{Ok, Err}
+use Rattle.events.specs.declared.State.{State}
+use Rattle.refusal.specs.declared.Refusal.{Refusal}
+use Rattle.refusal.specs.Numbers.{number_of, numbered}
+use Rattle.refusal.proofs.Literal.{literal-holds}
 use Rattle.account.specs.Steps.{Shown}
 use Rattle.account.specs.Answers.{AnswersApart, OutlooksApart}
 
+-- a refusal is told by its number
+same-refusal : (r s : Refusal) → number_of r ≡ number_of s → r ≡ s
+same-refusal r s e = sym (literal-holds.told r) ∙ ap numbered e ∙ literal-holds.told s
+
 pub answers-apart : AnswersApart
-answers-apart (Answer'.Refused n) (Answer'.Refused k) h = ap Answer'.Refused (let z : n ≡ k = cc in z)
-answers-apart (Answer'.Refused n) Answer'.Taken h = let z : ◌≡◌ {A = ℕ} 0 1 = cc in absurd (omega arith)
-answers-apart Answer'.Taken (Answer'.Refused k) h = let z : ◌≡◌ {A = ℕ} 0 1 = cc in absurd (omega arith)
-answers-apart Answer'.Taken Answer'.Taken h = refl
+answers-apart (Err r) (Err s) h k = ap Err (same-refusal r s (let z : number_of r ≡ number_of s = cc in z))
+answers-apart (Err r) (Ok y) h k = let z : ◌≡◌ {A = ℕ} 0 1 = cc in absurd (omega arith)
+answers-apart (Ok x) (Err s) h k = let z : ◌≡◌ {A = ℕ} 0 1 = cc in absurd (omega arith)
+answers-apart (Ok x) (Ok y) h k = ap Ok k
 
 pub outlooks-apart : OutlooksApart
-outlooks-apart (Outlook'.Refused n) (Outlook'.Refused k) h =
+outlooks-apart (Err r) (Err s) h =
     let e = ap (λ (t : Shown). t.refusal) h in
-    ap Outlook'.Refused (let z : n ≡ k = cc in z)
-outlooks-apart (Outlook'.Refused n) (Outlook'.State s k) h =
-    let e = ap (λ (t : Shown). t.refusal) h in
-    let z : ◌≡◌ {A = ℕ} 0 1 = cc in absurd (omega arith)
-outlooks-apart (Outlook'.State s n) (Outlook'.Refused k) h =
+    ap Err (same-refusal r s (let z : number_of r ≡ number_of s = cc in z))
+outlooks-apart (Err r) (Ok y) h =
     let e = ap (λ (t : Shown). t.refusal) h in
     let z : ◌≡◌ {A = ℕ} 0 1 = cc in absurd (omega arith)
-outlooks-apart (Outlook'.State s n) (Outlook'.State r k) h =
+outlooks-apart (Ok x) (Err s) h =
+    let e = ap (λ (t : Shown). t.refusal) h in
+    let z : ◌≡◌ {A = ℕ} 0 1 = cc in absurd (omega arith)
+outlooks-apart (Ok x) (Ok y) h =
     let e = ap (λ (t : Shown). t.state) h in
-    ap₂ Outlook'.State (let z : s ≡ r = cc in z) (ap (λ (t : Shown). t.applied) h)
+    ap₂ (λ (s : State) (n : ℕ). Ok (record { state = s; applied = n })) (let z : x.state ≡ y.state = cc in z) (ap (λ (t : Shown). t.applied) h)

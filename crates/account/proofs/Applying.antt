@@ -21,7 +21,6 @@ use Rattle.filing.specs.declared.Entries.{Entries}
 use Rattle.filing.specs.Slots.{RuleSlot, is_undecided, committed_slot, places, blank}
 use Rattle.filing.specs.Entries.{RuleEntry, entry_of, entries_of, only_entry}
 use Rattle.account.specs.declared.Account.{Account}
-use Rattle.account.specs.declared.Stepped.{Stepped}
 use Rattle.account.specs.inside.Taken.{taken_as, listed, marked_at, SettlesBy, DrainsBy}
 use Rattle.account.proofs.Padded.{RowOf, progress-row, held-row, state-is, account-is}
 use Rattle.account.proofs.Slices.{used_from, used-length}
@@ -39,29 +38,31 @@ marked-blanks marked count row xs many there whole = by (ltb marked places) refl
 
 module _ (R : Rule State Event ℕ) where
   -- `row` is the row of the events in progress as settling finds it
-  pub record Applying (self : Account) (row : List Slot) (entries₀ : Entries) (next : Account) (entries : Entries) (now : State) (ended at : ℕ) : Type 0 where
+  pub record Applying (self : Account) (row : List Slot) (entries₀ : Entries) (next : Account) (entries : Entries) (ended at : ℕ) : Type 0 where
     pub within : (at ≤ self.progressing) × (self.progressing ≤ places) × (places ≤ length row)
     pub counts : (ended ≤ at) × (entries.count ≡ entries₀.count + ended) × (entries₀.count ≡ 1)
     pub held : next.held ≡ self.held
     pub holding : next.holding ≡ self.holding
+    pub progressing : next.progressing ≡ self.progressing
     pub progress : MovedUp row next.progress ended at
     pub leads : (s : State) (held : List RuleSlot) (written : List RuleEntry) → self.state ≡ s → entries₀ ≡ entries_of written → guarded R s [] (used_from 0 self.progressing row) ≡ true
-        → Settling R s held written row self.progressing now entries ended at
+        → Settling R s held written row self.progressing next.state entries ended at
 
   -- none gone through yet
   pub applying-none : (self : Account) (next : Account) (entries : Entries) → self.progressing ≤ places → places ≤ length next.progress → entries.count ≡ 1
-      → next.held ≡ self.held → next.holding ≡ self.holding → Applying self next.progress entries next entries self.state 0 0
-  applying-none self next entries few many one h n =
+      → next.state ≡ self.state → next.held ≡ self.held → next.holding ≡ self.holding → next.progressing ≡ self.progressing → Applying self next.progress entries next entries 0 0
+  applying-none self next entries few many one z h n p =
       record {
         within = omega arith;
         counts = omega arith;
         held = h;
         holding = n;
+        progressing = p;
         progress = up_none next.progress;
-        leads = λ s held written same e g. rw same (settling-none R s held written next.progress self.progressing entries e g);
+        leads = λ s held written same e g. rw (z, same) (settling-none R s held written next.progress self.progressing entries e g);
       }
 
-  module _ (self : Account) (row : List Slot) (entries₀ : Entries) (next : Account) (entries : Entries) (now : State) (ended at : ℕ) (so_far : Applying self row entries₀ next entries now ended at)
+  module _ (self : Account) (row : List Slot) (entries₀ : Entries) (next : Account) (entries : Entries) (ended at : ℕ) (so_far : Applying self row entries₀ next entries ended at)
       (below : at < self.progressing) where
     inside : at < length row
     inside = omega (arith, so_far.within)
@@ -79,32 +80,33 @@ module _ (R : Rule State Event ℕ) where
           held = next.held;
           holding = next.holding;
         })
-        entries now ended (at + 1)
+        entries ended (at + 1)
     applying-stays h =
         record {
           within = omega (arith, so_far.within);
           counts = omega (arith, so_far.counts);
           held = so_far.held;
           holding = so_far.holding;
+          progressing = so_far.progressing;
           progress = up_kept row next.progress ended at so_far.progress inside so_far.counts.0;
           leads =
               λ s held written same e g.
-              settled-stays R s held written row self.progressing now entries ended at (so_far.leads s held written same e g) so_far.counts.0 below (omega (arith, so_far.within)) (rw here at h);
+              settled-stays R s held written row self.progressing next.state entries ended at (so_far.leads s held written same e g) so_far.counts.0 below (omega (arith, so_far.within)) (rw here at h);
         }
 
     -- one that is applied, with all before it
-    pub applying-next : (entry : Entry) → entry ≡ entry_of (application_of R now (get_or next.progress at blank))
+    pub applying-next : (entry : Entry) → entry ≡ entry_of (application_of R next.state (get_or next.progress at blank))
         → (eqb at ended && not (is_undecided (get_or next.progress at blank).decision)) ≡ true
         → Applying self row entries₀
         (record {
-          state = next.state;
+          state = R.effect (get_or next.progress at blank).event next.state;
           progress = set next.progress at blank;
           progressing = next.progressing;
           held = next.held;
           holding = next.holding;
         })
         (record { at = set entries.at entries.count entry; count = entries.count + 1 })
-        (R.effect (get_or next.progress at blank).event now) (ended + 1) (at + 1)
+        (ended + 1) (at + 1)
     applying-next entry is first =
         let same = eqb-true at ended (and_left (eqb at ended) (not (is_undecided (get_or next.progress at blank).decision)) first) in
         record {
@@ -112,29 +114,30 @@ module _ (R : Rule State Event ℕ) where
           counts = omega (arith, so_far.counts);
           held = so_far.held;
           holding = so_far.holding;
+          progressing = so_far.progressing;
           progress = up-gone row next.progress ended at so_far.progress inside so_far.counts.0 same;
           leads =
               λ s held written start e g.
               rw here
-              (settled-apply R s held written row self.progressing now entries ended at (so_far.leads s held written start e g) so_far.counts.0 below (omega (arith, so_far.within)) entry (rw here at is) (omega (arith, so_far.counts, so_far.within)) (rw here at first));
+              (settled-apply R s held written row self.progressing next.state entries ended at (so_far.leads s held written start e g) so_far.counts.0 below (omega (arith, so_far.within)) entry (rw here at is) (omega (arith, so_far.counts, so_far.within)) (rw here at first));
         }
 
   -- past the last of them the requests held are looked at
-  pub applying-all : (self : Account) (marked : ℕ) (first : Entry) (row : List Slot) (entries₀ : Entries) (next : Account) (entries : Entries) (now : State) (ended at : ℕ)
-      → Applying self row entries₀ next entries now ended at → self.progressing ≤ at → row ≡ marked_at marked self.progress → length self.progress ≡ places → entries₀ ≡ only_entry first
-      → (r : Stepped)
+  pub applying-all : (self : Account) (marked : ℕ) (first : Entry) (row : List Slot) (entries₀ : Entries) (next : Account) (entries : Entries) (ended at : ℕ)
+      → Applying self row entries₀ next entries ended at → self.progressing ≤ at → row ≡ marked_at marked self.progress → length self.progress ≡ places → entries₀ ≡ only_entry first
+      → (rest : Account) (written : Entries)
       → DrainsBy R
       (record {
-        state = now;
+        state = next.state;
         progress = next.progress;
-        progressing = self.progressing - ended;
+        progressing = next.progressing - ended;
         held = next.held;
         holding = next.holding;
       })
-      entries r
-      → SettlesBy R self marked first r
+      entries rest written
+      → SettlesBy R self marked first rest written
   unfolding entries_of
-  applying-all self marked first row entries₀ next entries now ended at so_far end marks many only r drains x events own lists decisions there same is g =
+  applying-all self marked first row entries₀ next entries ended at so_far end marks many only left written drains x events own lists decisions there same is g =
       let last : at ≡ self.progressing = omega (arith, so_far.within) in
       let requests = held-row self x lists in
       let rest = used_from ended self.progressing row in
@@ -143,7 +146,7 @@ module _ (R : Rule State Event ℕ) where
       let d = rw last at (so_far.leads x.state x.held (own ∷ []) (state-is self x lists) (only ∙ ap only_entry is) (rw all g)) in
       let blanks = rw (← marks) at (marked-blanks marked self.progressing self.progress x.progress many there (progress-row self x lists)) in
       let up = up-all row next.progress ended self.progressing (rw last at so_far.progress) (omega (arith, so_far.within)) (omega (arith, so_far.within)) blanks in
-      drains (listed now rest x.held) d.written'
-      (account-is _ (listed now rest x.held) refl up (sym size) (so_far.held ∙ requests.places') (so_far.holding ∙ requests.count'))
+      drains (listed next.state rest x.held) d.written'
+      (account-is _ (listed next.state rest x.held) refl up (ap (λ (n : ℕ). n - ended) so_far.progressing ∙ sym size) (so_far.held ∙ requests.places') (so_far.holding ∙ requests.count'))
       decisions d.list d.guards
-      ∙ ap taken_as (settled-all R x.state x.held (own ∷ []) row self.progressing now entries ended d ∙ ap (λ (l : List RuleSlot). after (own ∷ []) (settle R x.state l x.held)) all)
+      ∙ ap taken_as (settled-all R x.state x.held (own ∷ []) row self.progressing next.state entries ended d ∙ ap (λ (l : List RuleSlot). after (own ∷ []) (settle R x.state l x.held)) all)

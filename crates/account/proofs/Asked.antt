@@ -29,11 +29,10 @@ use Rattle.filing.specs.Entries.{is_accepted, verdict_of, weighing_of, entry_of,
 use Rattle.filing.proofs.Slots.{place-slot}
 use Rattle.filing.proofs.Filled.{fill-next}
 use Rattle.account.specs.declared.Account.{Account}
-use Rattle.account.specs.declared.Answer.TheVariants as Answer'
-use Rattle.account.specs.declared.Stepped.{Stepped}
 use Rattle.account.specs.declared.outcomes.Outcomes.{Outcomes}
 use Rattle.account.specs.Places.{RuleAccount, padded, lists_of, account_of}
 use Rattle.account.specs.InOrder.{in_order_by}
+use Rattle.account.specs.Steps.{taken_step}
 use Rattle.account.specs.inside.Known.{KnowsBy, DecidesBy}
 use Rattle.account.specs.inside.Taken.{taken_as}
 use Rattle.account.proofs.Padded.{RowOf, progress-row, held-row, state-is, account-is}
@@ -60,7 +59,7 @@ module _ (R : rule.Rule State Event ℕ) (a : Account) (x : RuleAccount) (lists 
   -- what stands behind the vote
   voted-step : (next : Account) (entries : Entries) → entries ≡ only_entry (entry_of (rule.voted t g e (weighing_of w)))
       → next ≡ account_of (asked_by (verdict_of w.verdict) x.state x.progress x.held (slot_of request_slot))
-      → ◌≡◌ {A = Stepped} (record { account = next; entries = entries; answer = Answer'.Taken }) (taken_as (asked R x t g e))
+      → taken_step next entries ≡ taken_as (asked R x t g e)
   unfolding asked entries_of
   voted-step next entries only is =
       taken_is next entries (asked_by (verdict_of w.verdict) x.state x.progress x.held (slot_of request_slot)) (rule.voted t g e (weighing_of w) ∷ []) is only
@@ -71,13 +70,8 @@ module _ (R : rule.Rule State Event ℕ) (a : Account) (x : RuleAccount) (lists 
 
   module _ (entries : Entries) (only : entries ≡ only_entry (entry_of (rule.voted t g e (weighing_of w)))) where
     pub asked-accept : w.verdict ≡ Accepted → a.progressing < places
-        → ◌≡◌ {A = Stepped}
-        (record {
-          account = record { state = a.state; progress = set a.progress a.progressing request_slot; progressing = a.progressing + 1; held = a.held; holding = a.holding };
-          entries = entries;
-          answer = Answer'.Taken;
-        })
-        (taken_as (asked R x t g e))
+        → taken_step (record { state = a.state; progress = set a.progress a.progressing request_slot; progressing = a.progressing + 1; held = a.held; holding = a.holding }) entries
+        ≡ taken_as (asked R x t g e)
     asked-accept v free =
         let more = row_more a.progress a.progressing x.progress request_slot (progress-row a x lists) free in
         let requests = held-row a x lists in
@@ -85,17 +79,12 @@ module _ (R : rule.Rule State Event ℕ) (a : Account) (x : RuleAccount) (lists 
         (account-is _ (following Accepted) (state-is a x lists) more.0 more.1 requests.places' requests.count'
         ∙ ap (λ (z : Verdict). account_of (following z)) (sym v))
 
-    pub asked-reject : w.verdict ≡ Rejected → ◌≡◌ {A = Stepped} (record { account = a; entries = entries; answer = Answer'.Taken }) (taken_as (asked R x t g e))
+    pub asked-reject : w.verdict ≡ Rejected → taken_step a entries ≡ taken_as (asked R x t g e)
     asked-reject v = voted-step a entries only (lists ∙ ap (λ (z : Verdict). account_of (following z)) (sym v))
 
     pub asked-hold : w.verdict ≡ Held → a.holding < places
-        → ◌≡◌ {A = Stepped}
-        (record {
-          account = record { state = a.state; progress = a.progress; progressing = a.progressing; held = set a.held a.holding request_slot; holding = a.holding + 1 };
-          entries = entries;
-          answer = Answer'.Taken;
-        })
-        (taken_as (asked R x t g e))
+        → taken_step (record { state = a.state; progress = a.progress; progressing = a.progressing; held = set a.held a.holding request_slot; holding = a.holding + 1 }) entries
+        ≡ taken_as (asked R x t g e)
     asked-hold v free =
         let more = row_more a.held a.holding x.held request_slot (held-row a x lists) free in
         let events = progress-row a x lists in

@@ -23,12 +23,13 @@ use Rattle.events.specs.declared.State.{State}
 use Rattle.filing.specs.declared.Filed.{Filed}
 use Rattle.filing.specs.declared.Slot.{Slot}
 use Rattle.filing.specs.declared.Entry.{Entry}
+use Rattle.filing.specs.declared.Entries.{Entries}
 use Rattle.filing.specs.Slots.{RuleSlot, slot_of, place_of, committed_slot, places, blank}
 use Rattle.filing.specs.Entries.{entry_of}
 use Rattle.filing.proofs.Filled.{length-filled}
 use Rattle.account.specs.declared.Account.{Account}
-use Rattle.account.specs.declared.Stepped.{Stepped}
 use Rattle.account.specs.Places.{RuleAccount, used, lists_of, account_of}
+use Rattle.account.specs.Steps.{taken_step}
 use Rattle.account.specs.inside.Judged.{FoundAt}
 use Rattle.account.specs.inside.Taken.{taken_as, listed, marked_at, WithoutEvent, WithoutRequest, SettlesBy}
 use Rattle.account.proofs.Padded.{progress-row, held-row}
@@ -52,9 +53,9 @@ either_true false false (inr h) = h
 module _ (R : rule.Rule State Event ℕ) (a : Account) (many : length a.progress ≡ places) (own : Ordered R a) (t : ℕ) (g : Filed) where
   -- a commit, with the place that was found
   pub commit-settled : refusal R (lists_of a) (rule.commit t g) ≡ none → (at : ℕ) → FoundAt t a.progress a.progressing at
-      → (first : Entry) → first ≡ entry_of (rule.noted t g) → (r : Stepped) → SettlesBy R a at first r → r ≡ taken_as (committing R (lists_of a) t g)
+      → (first : Entry) → first ≡ entry_of (rule.noted t g) → (next : Account) (entries : Entries) → SettlesBy R a at first next entries → taken_step next entries ≡ taken_as (committing R (lists_of a) t g)
   unfolding committing lists_of
-  commit-settled taken at found first is r settles =
+  commit-settled taken at found first is next entries settles =
       let p = some_of (named t) (lists_of a).progress in
       let h = some_of (named t) (lists_of a).held in
       let stands = (free-commit p h (some_of (named_committed t) (lists_of a).progress) taken).0 in
@@ -99,9 +100,9 @@ module _ (R : rule.Rule State Event ℕ) (a : Account) (many : length a.progress
       -- an abort, with the slot that was found
       pub abort-settled : refusal R (lists_of a) (rule.abort t g) ≡ none → (found : Slot)
           → ((some_of (named t) (lists_of a).progress || some_of (named t) (lists_of a).held) ≡ true → keep (named t) (lists_of a).progress ++ keep (named t) (lists_of a).held ≡ slot_of found ∷ [])
-          → (first : Entry) → first ≡ entry_of (dropping (slot_of found)) → (r : Stepped) → SettlesBy R rest places first r → r ≡ taken_as (aborting R (lists_of a) t)
+          → (first : Entry) → first ≡ entry_of (dropping (slot_of found)) → (next : Account) (entries : Entries) → SettlesBy R rest places first next entries → taken_step next entries ≡ taken_as (aborting R (lists_of a) t)
       unfolding aborting
-      abort-settled taken found slot first is r settles =
+      abort-settled taken found slot first is next entries settles =
           let p = some_of (named t) (lists_of a).progress in
           let h = some_of (named t) (lists_of a).held in
           let free = free-abort p h (some_of (named_committed t) (lists_of a).progress) taken in

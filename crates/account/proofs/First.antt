@@ -111,8 +111,8 @@ abbrev pub Weighed : Account → Event → Weighing → Type 0
 Weighed a e w = asked.Weighed panel a e w
 
 -- on the way through the events in progress, and through the requests held
-abbrev pub Applying : Account → (row : List Slot) → Entries → Account → Entries → State → (ended at : ℕ) → Type 0
-Applying self row entries₀ next entries now ended at = applying.Applying panel self row entries₀ next entries now ended at
+abbrev pub Applying : Account → (row : List Slot) → Entries → Account → Entries → (ended at : ℕ) → Type 0
+Applying self row entries₀ next entries ended at = applying.Applying panel self row entries₀ next entries ended at
 
 abbrev pub Voting : Account → Entries → Account → Entries → Outcomes → (voted at : ℕ) → Type 0
 Voting self entries₀ next entries outcomes voted at = voting.Voting panel self entries₀ next entries outcomes voted at

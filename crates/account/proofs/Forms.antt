@@ -5,6 +5,7 @@ use mathlib.Core.List.{List}
 use lib.ListN.{length}
 use Rattle.filing.specs.Slots.{RuleSlot, place_of, blank}
 use Rattle.filing.proofs.Filled.{first-filled, rest-filled, length-filled}
+use Rattle.filing.specs.Entries.{entries_of}
 use Rattle.account.specs.Places.{padded, account_of}
 use Rattle.account.specs.Forms.{RowForm, FormsHold}
 use Rattle.account.proofs.Padded.{lists-account}
@@ -21,10 +22,10 @@ row-form xs =
     }
 
 pub forms-hold : FormsHold
-unfolding account_of
+unfolding account_of entries_of
 forms-hold =
     record {
       accounts = λ a. record { state = refl; progress = row-form a.progress; held = row-form a.held; forth = lists-account a };
       nothing_else = λ a p q h. sym (ordered _ a first-ranged p q h).lists;
-      answers = record { refused = λ n. refl; taken = refl; question_refused = λ n. refl; question_answered = λ s n. refl };
+      answers = record { refused = λ r. refl; silent = λ r. refl; taken = λ entries. refl; written = λ entries. refl; question_refused = λ r. refl; question_answered = λ s n. refl };
     }

@@ -6,8 +6,9 @@ use mathlib.Core.Path.{◌≡◌, refl, sym, ap, ap₂, ◌∙◌}
 use mathlib.Core.Bool.{Bool, true, false, cond, ◌||◌, not, false≢true}
 use mathlib.Core.List.{List, [], ◌∷◌, ◌++◌}
 use mathlib.Core.Option.{Option, none, some}
-use lib.Dec.{eqb, leb, ltb}
+use lib.Dec.{eqb, leb}
 use lib.ListN.{length}
+use Rattle.std.specs.Prelude.{Result, Ok, Err}
 use Rattle.rule.specs.Lists.{every, some_of, keep}
 use Rattle.rule.specs.Rule as rule
 use Rattle.rule.specs.InOrder.{without_decision}
@@ -20,43 +21,38 @@ use Rattle.filing.specs.declared.Decision.{Decision}
 use Rattle.filing.specs.declared.Decision.TheVariants.{Undecided, Committed}
 use Rattle.filing.specs.declared.Filed.{Filed}
 use Rattle.filing.specs.declared.Slot.{Slot}
-use Rattle.filing.specs.Slots.{RuleSlot, places, is_undecided, decision_of, slot_of}
+use Rattle.filing.specs.Slots.{RuleSlot, is_undecided, decision_of, slot_of}
+use Rattle.refusal.specs.declared.Refusal.{Refusal}
+use Rattle.refusal.specs.declared.Refusal.TheVariants.{NotInOrder, KnownTransaction, AllHeld, UnknownTransaction, HeldTransaction, CommittedAlready, CommittedBefore}
+use Rattle.refusal.specs.Numbers.{number_of}
 use Rattle.account.specs.declared.Account.{Account}
-use Rattle.account.specs.declared.Answer.{Answer}
-use Rattle.account.specs.declared.Answer.TheVariants as Answer'
 use Rattle.account.specs.declared.judging.Judged.{Judged}
-use Rattle.account.specs.declared.refusing.Asked.{Asked}
 use Rattle.account.specs.Places.{lists_of}
 use Rattle.account.specs.InOrder.{in_order_by}
-use Rattle.account.specs.Steps.{refusal_in}
-use Rattle.account.specs.inside.Judged.{JudgesBy, request_answer, commit_answer, abort_answer, asked_answer, answer_by, message_asks, message_names}
+use Rattle.account.specs.inside.Judged.{JudgesBy, waits, is_named, answer_by, message_names}
 use Rattle.account.proofs.Places.{count-used}
 use Rattle.account.proofs.Clauses.{rule-clauses}
 
-module _ (R : rule.Rule State Event ℕ) where
-  -- the answer to what is asked, of an account in order or not
-  pub answer-asked : (j : Judged) (asked x : Asked) (holding : ℕ) (r : Answer) → j.in_order ≡ true → asked ≡ x → r ≡ asked_answer R j x holding → r ≡ answer_by R j asked holding
-  unfolding answer_by
-  answer-asked j asked x holding r h q e =
-      e ∙ ap (λ (y : Asked). asked_answer R j y holding) (sym q) ∙ ap (λ (b : Bool). cond b (asked_answer R j asked holding) (Answer'.Refused 5)) (sym h)
+-- the number of the refusal that is found, if one is
+abbrev pub number_in : Result (Unit {0}) Refusal → Option ℕ
+number_in (Ok x) = none
+number_in (Err r) = some (number_of r)
 
-  pub answer-disorder : (j : Judged) (asked : Asked) (holding : ℕ) → j.in_order ≡ false → Answer'.Refused 5 ≡ answer_by R j asked holding
-  unfolding answer_by
-  answer-disorder j asked holding h = ap (λ (b : Bool). cond b (asked_answer R j asked holding) (Answer'.Refused 5)) (sym h)
-
--- the answers as numbers
-request-number : (named full : Bool) → refusal_in (request_answer named full) ≡ cond named (some 6) (cond full (some 7) none)
+request-number : (named full : Bool) → number_in (cond named (Err KnownTransaction) (cond full (Err AllHeld) (Ok tt))) ≡ cond named (some 6) (cond full (some 7) none)
 request-number true full = refl
 request-number false true = refl
 request-number false false = refl
 
-commit-number : (named waits committed : Bool) → refusal_in (commit_answer named waits committed) ≡ cond (not named) (some 8) (cond waits (some 9) (cond committed (some 10) none))
+commit-number : (named waits committed : Bool)
+    → number_in (cond (not named) (Err UnknownTransaction) (cond waits (Err HeldTransaction) (cond committed (Err CommittedAlready) (Ok tt))))
+    ≡ cond (not named) (some 8) (cond waits (some 9) (cond committed (some 10) none))
 commit-number false waits committed = refl
 commit-number true true committed = refl
 commit-number true false true = refl
 commit-number true false false = refl
 
-abort-number : (named committed : Bool) → refusal_in (abort_answer named committed) ≡ cond (not named) (some 8) (cond committed (some 11) none)
+abort-number : (named committed : Bool)
+    → number_in (cond (not named) (Err UnknownTransaction) (cond committed (Err CommittedBefore) (Ok tt))) ≡ cond (not named) (some 8) (cond committed (some 11) none)
 abort-number false committed = refl
 abort-number true true = refl
 abort-number true false = refl
@@ -121,13 +117,13 @@ module _ (R : rule.Rule State Event ℕ) (a : Account) (j : Judged) (room : a.ho
     abbrev is_there : Bool
     is_there = some_of (named t) (lists_of a).progress || some_of (named t) (lists_of a).held
 
-    waits : ltb j.request places ≡ some_of (named t) (lists_of a).held
+    waits-there : waits j ≡ some_of (named t) (lists_of a).held
     unfolding lists_of
-    waits = (k.request h).tells
+    waits-there = (k.request h).tells
 
-    there : (ltb j.event places || ltb j.request places) ≡ is_there
+    there : is_named j ≡ is_there
     unfolding lists_of
-    there = ap₂ (λ (x y : Bool). x || y) (k.event h).tells waits
+    there = ap₂ (λ (x y : Bool). x || y) (k.event h).tells waits-there
 
     full : leb R.held_limit a.holding ≡ leb R.held_limit (length (lists_of a).held)
     unfolding lists_of
@@ -136,32 +132,36 @@ module _ (R : rule.Rule State Event ℕ) (a : Account) (j : Judged) (room : a.ho
     committed : is_there ≡ true → not (is_undecided j.slot.decision) ≡ some_of (Rule-Call.named_committed t) (lists_of a).progress
     committed q = committed-found t (lists_of a).progress (lists_of a).held j.slot (rule-clauses R a h).decisions (k.slot h q)
 
-  asked-refusal : (m : rule.Message Filed Event) → JudgesBy R a (message_names m) j → in_order_by R a ≡ true
-      → refusal_in (asked_answer R j (message_asks m) a.holding) ≡ Rule-Call.refusal R (lists_of a) m
-  asked-refusal (rule.request t g e) k h =
-      request-number (ltb j.event places || ltb j.request places) (leb R.held_limit a.holding)
-      ∙ ap₂ (λ (x y : Bool). cond x (some 6) (cond y (some 7) none)) (there t k h) (full t k h)
-  asked-refusal (rule.commit t g) k h =
-      let c = not (is_undecided j.slot.decision) in
-      commit-number (ltb j.event places || ltb j.request places) (ltb j.request places) c
-      ∙ ap₂ (λ (x y : Bool). cond (not x) (some 8) (cond y (some 9) (cond c (some 10) none))) (there t k h) (waits t k h)
-      ∙ asked-behind (is_there t k h) (some 8)
-      (λ q. ap (λ (x : Bool). cond (some_of (named t) (lists_of a).held) (some 9) (cond x (some 10) none)) (committed t k h q))
-  asked-refusal (rule.abort t g) k h =
-      let c = not (is_undecided j.slot.decision) in
-      abort-number (ltb j.event places || ltb j.request places) c
-      ∙ ap (λ (x : Bool). cond (not x) (some 8) (cond c (some 11) none)) (there t k h)
-      ∙ asked-behind (is_there t k h) (some 8) (λ q. ap (λ (x : Bool). cond x (some 11) none) (committed t k h q))
-
   -- the answer by what was found: 5 where the account is not in order, else the rule's refusal
   pub judged-refusal : (m : rule.Message Filed Event) → JudgesBy R a (message_names m) j
-      → refusal_in (answer_by R j (message_asks m) a.holding) ≡ cond (in_order_by R a) (Rule-Call.refusal R (lists_of a) m) (some 5)
-  unfolding answer_by
-  judged-refusal m k =
-      let first = asked_answer R j (message_asks m) a.holding in
-      ap (λ (b : Bool). refusal_in (cond b first (Answer'.Refused 5))) k.ordered ∙ go (in_order_by R a) refl
+      → number_in (answer_by R j m a.holding) ≡ cond (in_order_by R a) (Rule-Call.refusal R (lists_of a) m) (some 5)
+  judged-refusal (rule.request t g e) k = rw k.ordered (go (in_order_by R a) refl)
     where
       go : (b : Bool) → in_order_by R a ≡ b
-          → refusal_in (cond b (asked_answer R j (message_asks m) a.holding) (Answer'.Refused 5)) ≡ cond b (Rule-Call.refusal R (lists_of a) m) (some 5)
-      go true h = asked-refusal m k h
+          → number_in (cond b (cond (is_named j) (Err KnownTransaction) (cond (leb R.held_limit a.holding) (Err AllHeld) (Ok tt))) (Err NotInOrder))
+          ≡ cond b (Rule-Call.refusal R (lists_of a) (rule.request t g e)) (some 5)
+      go true h =
+          request-number (is_named j) (leb R.held_limit a.holding)
+          ∙ ap₂ (λ (x y : Bool). cond x (some 6) (cond y (some 7) none)) (there t k h) (full t k h)
+      go false h = refl
+  judged-refusal (rule.commit t g) k = rw k.ordered (go (in_order_by R a) refl)
+    where
+      go : (b : Bool) → in_order_by R a ≡ b
+          → number_in (cond b (cond (not (is_named j)) (Err UnknownTransaction) (cond (waits j) (Err HeldTransaction) (cond (not (is_undecided j.slot.decision)) (Err CommittedAlready) (Ok tt)))) (Err NotInOrder))
+          ≡ cond b (Rule-Call.refusal R (lists_of a) (rule.commit t g)) (some 5)
+      go true h =
+          commit-number (is_named j) (waits j) (not (is_undecided j.slot.decision))
+          ∙ ap₂ (λ (x y : Bool). cond (not x) (some 8) (cond y (some 9) (cond (not (is_undecided j.slot.decision)) (some 10) none))) (there t k h) (waits-there t k h)
+          ∙ asked-behind (is_there t k h) (some 8)
+          (λ q. ap (λ (x : Bool). cond (some_of (named t) (lists_of a).held) (some 9) (cond x (some 10) none)) (committed t k h q))
+      go false h = refl
+  judged-refusal (rule.abort t g) k = rw k.ordered (go (in_order_by R a) refl)
+    where
+      go : (b : Bool) → in_order_by R a ≡ b
+          → number_in (cond b (cond (not (is_named j)) (Err UnknownTransaction) (cond (not (is_undecided j.slot.decision)) (Err CommittedBefore) (Ok tt))) (Err NotInOrder))
+          ≡ cond b (Rule-Call.refusal R (lists_of a) (rule.abort t g)) (some 5)
+      go true h =
+          abort-number (is_named j) (not (is_undecided j.slot.decision))
+          ∙ ap (λ (x : Bool). cond (not x) (some 8) (cond (not (is_undecided j.slot.decision)) (some 11) none)) (there t k h)
+          ∙ asked-behind (is_there t k h) (some 8) (λ q. ap (λ (x : Bool). cond x (some 11) none) (committed t k h q))
       go false h = refl

@@ -27,7 +27,7 @@ use Rattle.filing.proofs.Filled.{rest-filled}
 use Rattle.account.specs.declared.Account.{Account}
 use Rattle.account.specs.Places.{RuleAccount, padded, lists_of, account_of}
 use Rattle.account.specs.InOrder.{in_order_by}
-use Rattle.account.specs.Steps.{stepped_by, step_by}
+use Rattle.account.specs.Steps.{entries_in, stepped_by, step_by}
 use Rattle.account.proofs.Padded.{lists-account}
 use Rattle.account.proofs.Clauses.{clauses, clauses-order}
 
@@ -86,12 +86,12 @@ module _ (R : rule.Rule State Event ℕ) where
       by (Rule-Call.taken xs) = order-account (Rule-Call.call R (lists_of a) m).account (call-order R sound (lists_of a) m (order-lists a h))
 
   -- and there are never more entries than places for them
-  pub step-few : R.progress_limit ≤ places → R.held_limit ≤ places → (a : Account) (m : rule.Message Filed Event) → (step_by R a m).entries.count ≤ most
+  pub step-few : R.progress_limit ≤ places → R.held_limit ≤ places → (a : Account) (m : rule.Message Filed Event) → (entries_in (step_by R a m).answer).count ≤ most
   unfolding step_by Rule-Call.call entries_of
   step-few few few_held a m = ordered (in_order_by R a) refl
     where
       taken : in_order_by R a ≡ true → (o : Option ℕ) → Rule-Call.refusal R (lists_of a) m ≡ o
-          → (stepped_by a (Rule-Call.call_by o (lists_of a) (step R (lists_of a) m)).account (Rule-Call.call_by o (lists_of a) (step R (lists_of a) m)).answer).entries.count ≤ most
+          → (entries_in (stepped_by a (Rule-Call.call_by o (lists_of a) (step R (lists_of a) m)).account (Rule-Call.call_by o (lists_of a) (step R (lists_of a) m)).answer).answer).count ≤ most
       taken h (some n) q = omega arith
       taken h none q =
           let own = order-clauses R (lists_of a) (order-lists a h) in
@@ -105,6 +105,6 @@ module _ (R : rule.Rule State Event ℕ) where
             leb-true k R.held_limit (and_right (leb p R.progress_limit) (leb k R.held_limit) own.counts),
           )
 
-      ordered : (b : Bool) → in_order_by R a ≡ b → (step_by R a m).entries.count ≤ most
+      ordered : (b : Bool) → in_order_by R a ≡ b → (entries_in (step_by R a m).answer).count ≤ most
       ordered true h = rw h (taken h (Rule-Call.refusal R (lists_of a) m) refl)
       ordered false h = rw h (omega arith)

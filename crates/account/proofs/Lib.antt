@@ -1,5 +1,4 @@
 pub mod Places
-pub mod Handed
 pub mod Clauses
 pub mod Judged
 pub mod Ranged

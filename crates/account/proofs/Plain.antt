@@ -5,6 +5,7 @@ use mathlib.Core.Path.{refl, ap₂}
 use mathlib.Core.List.{List, map}
 use borrow.Author.Tests.{lt-ltb, le-ltb}
 use lib.ListN.{take}
+use Rattle.std.specs.Prelude.{Ok}
 use Rattle.rule.specs.Rule as rule
 use Rattle.rule.specs.Outcome.{undecided_of}
 use Rattle.rule.proofs.Exact.{numbered, applied-ones}
@@ -14,7 +15,6 @@ use Rattle.filing.specs.declared.Filed.{Filed}
 use Rattle.filing.specs.Slots.{RuleSlot, slot_of}
 use Rattle.filing.specs.Entries.{entries_of}
 use Rattle.account.specs.declared.Account.{Account}
-use Rattle.account.specs.declared.Outlook.TheVariants as Outlook'
 use Rattle.account.specs.Places.{lists_of}
 use Rattle.account.specs.InOrder.{in_order_by}
 use Rattle.account.specs.Steps.{step_by, outlook_by}
@@ -36,7 +36,7 @@ question-plain R a n =
     record {
       out_of_order = λ order. rw order refl;
       no_outcome = λ order high. rw (order, le-ltb n (2 ^ undecided_of xs) high) refl;
-      answered = λ order low. rw (order, lt-ltb n (2 ^ undecided_of xs) low) (ap₂ Outlook'.State ((numbered R xs a.state).bits n) (applied-ones xs n low));
+      answered = λ order low. rw (order, lt-ltb n (2 ^ undecided_of xs) low) (ap₂ (λ (s : State) (k : ℕ). Ok (record { state = s; applied = k })) ((numbered R xs a.state).bits n) (applied-ones xs n low));
     }
 
 pub plain-holds : PlainHolds

@@ -24,38 +24,23 @@ use Rattle.filing.specs.Slots.{slot_of, decision_of}
 use Rattle.filing.specs.Entries.{RuleEntry, entry_of, most, blank_entry, entries_of}
 use Rattle.filing.proofs.Filled.{first-filled}
 use Rattle.account.specs.declared.Account.{Account}
-use Rattle.account.specs.declared.Stepped.{Stepped}
-use Rattle.account.specs.declared.Answer.TheVariants as Answer'
 use Rattle.account.specs.Places.{lists_of}
 use Rattle.account.specs.InOrder.{in_order_by}
-use Rattle.account.specs.Steps.{refusal_in, refused_by, step_by}
+use Rattle.account.specs.Steps.{Stepped, refusal_in, entries_in, refused_by, step_by}
 use Rattle.account.specs.inside.Taken.{taken_as}
 use Rattle.account.specs.Promises.{is_committed, stands, stands_committed, step_tests_by, StepPromiseBy}
 use Rattle.account.proofs.Ranged.{Ranged}
 use Rattle.account.proofs.Padded.{lists-account}
-use Rattle.account.proofs.Refused.{by, refusal-same}
-use Rattle.account.proofs.Answers.{answers-apart}
+use Rattle.account.proofs.Refused.{by, step-answer, refusal-same}
 use Rattle.account.proofs.Kept.{step-few}
 
 -- a step's answer by the rule's refusal, whatever the rule
 module _ (R : rule.Rule State Event ℕ) (a : Account) (m : rule.Message Filed Event) where
-  answer-by : (o : Option ℕ) → refusal_in (by R a m o).answer ≡ o
-  answer-by none = refl
-  answer-by (some n) = refl
-
-  step-answer : refusal_in (step_by R a m).answer ≡ cond (not (in_order_by R a)) (some 5) (Rule-Call.refusal R (lists_of a) m)
-  unfolding step_by Rule-Call.call
-  step-answer = go (in_order_by R a)
-    where
-      go : (b : Bool) → refusal_in (cond b (by R a m (Rule-Call.refusal R (lists_of a) m)) (refused_by a 5)).answer ≡ cond (not b) (some 5) (Rule-Call.refusal R (lists_of a) m)
-      go true = answer-by (Rule-Call.refusal R (lists_of a) m)
-      go false = refl
-
   -- a step that is not refused is the rule's, in places
   step-taken : refusal_in (step_by R a m).answer ≡ none
       → step_by R a m ≡ taken_as (record { account = (Rule-Call.call R (lists_of a) m).account; entries = Rule-Call.written (Rule-Call.call R (lists_of a) m).answer })
   unfolding step_by Rule-Call.call taken_as
-  step-taken h = go (in_order_by R a) (Rule-Call.refusal R (lists_of a) m) (sym step-answer ∙ h)
+  step-taken h = go (in_order_by R a) (Rule-Call.refusal R (lists_of a) m) (sym (step-answer R a m) ∙ h)
     where
       go : (b : Bool) (o : Option ℕ) → cond (not b) (some 5) o ≡ none
           → cond b (by R a m o) (refused_by a 5)
@@ -67,10 +52,6 @@ module _ (R : rule.Rule State Event ℕ) (a : Account) (m : rule.Message Filed E
       go true none k = refl
       go true (some n) k = absurd (ended n (sym k))
       go false o k = absurd (ended 5 (sym k))
-
-  -- a step that is refused leaves the account and writes nothing
-  step_same : (n : ℕ) → refusal_in (step_by R a m).answer ≡ some n → step_by R a m ≡ refused_by a n
-  step_same n h = refusal-same R a m n (answers-apart (step_by R a m).answer (Answer'.Refused n) h)
 
 -- a test of the rule's slots is one of the places' own fields
 module _ (t : ℕ) (row : List Slot) (count : ℕ) where
@@ -111,9 +92,9 @@ step-promise R ranged a m =
     let called = Rule-Call.call R (lists_of a) m in
     record {
       refusal = step-answer R a m ∙ first-test R a m;
-      unchanged = λ n h. ap (λ (c : Stepped). c.account) (step_same R a m n h);
-      silent = λ n h. ap (λ (c : Stepped). c.entries) (step_same R a m n h);
+      unchanged = λ n h. ap (λ (c : Stepped). c.account) (refusal-same R a m n h);
+      silent = λ n h. ap (λ (c : Stepped). entries_in c.answer) (refusal-same R a m n h);
       lists = λ h. ap (λ (c : Stepped). lists_of c.account) (step-taken R a m h) ∙ lists-account called.account;
-      entries = λ h. ap (λ (c : Stepped). take c.entries.count c.entries.at) (step-taken R a m h) ∙ entries-list (Rule-Call.written called.answer);
+      entries = λ h. ap (λ (c : Stepped). take (entries_in c.answer).count (entries_in c.answer).at) (step-taken R a m h) ∙ entries-list (Rule-Call.written called.answer);
       few = step-few R ranged.few ranged.few_held a m;
     }

@@ -11,9 +11,8 @@ use Rattle.filing.specs.declared.Entries.{Entries}
 use Rattle.filing.specs.Entries.{RuleEntry, entry_of, entries_of, most, blank_entry}
 use Rattle.filing.proofs.Filled.{fill-next}
 use Rattle.account.specs.declared.Account.{Account}
-use Rattle.account.specs.declared.Answer.TheVariants as Answer'
-use Rattle.account.specs.declared.Stepped.{Stepped}
 use Rattle.account.specs.Places.{RuleAccount, account_of}
+use Rattle.account.specs.Steps.{taken_step}
 use Rattle.account.specs.inside.Taken.{taken_as}
 
 -- entries of a list, with one more
@@ -26,9 +25,9 @@ entries_with entries entry xs x h e same =
 
 -- an account of lists, with entries of a list
 pub taken_is : (a : Account) (entries : Entries) (x : RuleAccount) (xs : List RuleEntry) → a ≡ account_of x → entries ≡ entries_of xs
-    → ◌≡◌ {A = Stepped} (record { account = a; entries = entries; answer = Answer'.Taken }) (taken_as (record { account = x; entries = xs }))
+    → taken_step a entries ≡ (taken_as (record { account = x; entries = xs }))
 unfolding taken_as
-taken_is a entries x xs p q = λ i. record { account = p i; entries = q i; answer = Answer'.Taken }
+taken_is a entries x xs p q = λ i. taken_step (p i) (q i)
 
 -- entries that are written first
 module _ {G S E B : Type 0} where

@@ -25,8 +25,6 @@ use Rattle.filing.specs.Slots.{RuleSlot, places, blank}
 use Rattle.filing.specs.Entries.{RuleEntry, is_accepted, is_held, weighing_of, entry_of, entries_of, most}
 use Rattle.account.specs.declared.Account.{Account}
 use Rattle.account.specs.declared.outcomes.Outcomes.{Outcomes}
-use Rattle.account.specs.declared.Answer.TheVariants as Answer'
-use Rattle.account.specs.declared.Stepped.{Stepped}
 use Rattle.account.specs.Places.{RuleAccount, used, account_of}
 use Rattle.account.specs.inside.Taken.{taken_as, listed, DrainsBy}
 use Rattle.account.specs.inside.Known.{KnowsBy, DecidesBy}
@@ -43,6 +41,7 @@ module _ (R : rule.Rule State Event ℕ) where
     pub within : (at ≤ self.holding) × (self.holding ≤ places) × (places ≤ length self.held)
     pub counts : (voted ≤ at) × (next.progressing ≤ places) × (entries.count ≡ entries₀.count + voted) × (entries₀.count + self.holding ≤ most)
     pub state : next.state ≡ self.state
+    pub holding : next.holding ≡ self.holding
     pub held : MovedUp self.held next.held voted at
     pub events : List RuleSlot
     pub number : length events ≡ next.progressing
@@ -82,6 +81,7 @@ module _ (R : rule.Rule State Event ℕ) where
           within = omega (arith, so_far.within);
           counts = omega (arith, so_far.counts);
           state = so_far.state;
+          holding = so_far.holding;
           held = up_kept self.held next.held voted at so_far.held inside so_far.counts.0;
           events = so_far.events;
           number = so_far.number;
@@ -122,6 +122,7 @@ module _ (R : rule.Rule State Event ℕ) where
             within = omega (arith, so_far.within);
             counts = omega (arith, so_far.counts);
             state = so_far.state;
+            holding = so_far.holding;
             held = up-gone self.held next.held voted at so_far.held inside so_far.counts.0 same;
             events = so_far.events ++ (as_event x ∷ []);
             number = length-append so_far.events (as_event x ∷ []) ∙ ap (λ (n : ℕ). n + 1) so_far.number;
@@ -148,6 +149,7 @@ module _ (R : rule.Rule State Event ℕ) where
             within = omega (arith, so_far.within);
             counts = omega (arith, so_far.counts);
             state = so_far.state;
+            holding = so_far.holding;
             held = up-gone self.held next.held voted at so_far.held inside so_far.counts.0 same;
             events = so_far.events;
             number = so_far.number;
@@ -167,6 +169,7 @@ module _ (R : rule.Rule State Event ℕ) where
         within = omega arith;
         counts = omega arith;
         state = refl;
+        holding = refl;
         held = up_none self.held;
         events = used self.progress self.progressing;
         number = count-used self.progress self.progressing (omega arith);
@@ -182,17 +185,13 @@ module _ (R : rule.Rule State Event ℕ) where
   pub voting-all : (self : Account) (entries₀ : Entries) (next : Account) (entries : Entries) (outcomes : Outcomes) (voted at : ℕ) → Voting self entries₀ next entries outcomes voted at → self.holding ≤ at
       → DrainsBy R self entries₀
       (record {
-        account =
-            record {
-              state = next.state;
-              progress = next.progress;
-              progressing = next.progressing;
-              held = next.held;
-              holding = self.holding - voted;
-            };
-        entries = entries;
-        answer = Answer'.Taken;
+        state = next.state;
+        progress = next.progress;
+        progressing = next.progressing;
+        held = next.held;
+        holding = next.holding - voted;
       })
+      entries
   voting-all self entries₀ next entries outcomes voted at so_far end x written lists decisions e g =
       let last : at ≡ self.holding = omega (arith, so_far.within) in
       let d = rw last at (so_far.leads x written lists decisions e g) in
@@ -201,12 +200,12 @@ module _ (R : rule.Rule State Event ℕ) where
       let events = so_far.events in
       let row = up-all self.held next.held voted self.holding (rw last at so_far.held) (omega (arith, so_far.within)) (omega (arith, so_far.within)) (held-row self x lists).blanks in
       taken_is _ entries (listed x.state events rest) d.written'
-      (account-is _ (listed x.state events rest) (so_far.state ∙ state-is self x lists) d.progress (sym so_far.number) row (sym size))
+      (account-is _ (listed x.state events rest) (so_far.state ∙ state-is self x lists) d.progress (sym so_far.number) row (ap (λ (n : ℕ). n - voted) so_far.holding ∙ sym size))
       d.list
       ∙ drained-all R x written self.held self.holding next.progress events entries voted d
 
   -- where there are none
-  pub drained-idle : (self : Account) (entries : Entries) → self.holding ≡ 0 → DrainsBy R self entries (record { account = self; entries = entries; answer = Answer'.Taken })
+  pub drained-idle : (self : Account) (entries : Entries) → self.holding ≡ 0 → DrainsBy R self entries self entries
   drained-idle self entries none x written lists decisions e g =
       let requests = held-row self x lists in
       taken_is self entries x written lists e ∙ idle x.held (sym requests.count' ∙ none)
@@ -215,9 +214,3 @@ module _ (R : rule.Rule State Event ℕ) where
           → taken_as (record { account = listed x.state x.progress held; entries = written }) ≡ taken_as (after written (drain R x.state x.progress held))
       idle [] h = ap (λ (es : List RuleEntry). taken_as (record { account = listed x.state x.progress []; entries = es })) (sym (append-nil written))
       idle (z ∷ held) h = absurd (omega arith)
-
-  -- what is drained is taken
-  pub drained-taken : (self : Account) (entries : Entries) (r : Stepped) → DrainsBy R self entries r
-      → DrainsBy R self entries (record { account = r.account; entries = r.entries; answer = Answer'.Taken })
-  unfolding taken_as
-  drained-taken self entries r drains x written lists decisions e g = rw (drains x written lists decisions e g)

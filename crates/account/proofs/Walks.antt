@@ -12,6 +12,7 @@ use lib.Count.{ones}
 use lib.ListN.{length, get_or}
 use lib.Pow.{pow_pos, shr-shr}
 use borrow.Author.Tests.{lt-ltb, le-ltb}
+use Rattle.std.specs.Prelude.{Ok, Err}
 use Rattle.rule.specs.Rule as rule
 use Rattle.rule.specs.Outcome.{undecided_of, outcome}
 use Rattle.rule.proofs.Exact.{applied-ones}
@@ -22,8 +23,8 @@ use Rattle.filing.specs.declared.Decision.TheVariants.{Undecided, Committed}
 use Rattle.filing.specs.declared.Filed.{Filed}
 use Rattle.filing.specs.declared.Slot.{Slot}
 use Rattle.filing.specs.Slots.{RuleSlot, is_undecided, decision_of, blank}
+use Rattle.refusal.specs.declared.Refusal.TheVariants.{NotInOrder, NoSuchOutcome}
 use Rattle.account.specs.declared.Account.{Account}
-use Rattle.account.specs.declared.Outlook.TheVariants as Outlook'
 use Rattle.account.specs.declared.question.Reached.{Reached}
 use Rattle.account.specs.Places.{used, lists_of}
 use Rattle.account.specs.InOrder.{in_order_by}
@@ -76,7 +77,7 @@ above n u h = let enough : 1 * 2 ^ u ≤ n = (le-div_iff_mul-le (pow_pos u)).0 h
 
 module _ (R : rule.Rule State Event ℕ) (a : Account) (n : ℕ) where
   -- 5: the account is not in order
-  pub outlook-order : in_order_by R a ≡ false → Outlook'.Refused 5 ≡ outlook_by R a n
+  pub outlook-order : in_order_by R a ≡ false → Err NotInOrder ≡ outlook_by R a n
   unfolding outlook_by
   outlook-order h = rw h
 
@@ -85,11 +86,11 @@ module _ (R : rule.Rule State Event ℕ) (a : Account) (n : ℕ) where
     xs = used a.progress a.progressing
 
     -- 12: there is no outcome of that number
-    pub outlook-none : 0 < (reached_past R xs n a.state).left → Outlook'.Refused 12 ≡ outlook_by R a n
+    pub outlook-none : 0 < (reached_past R xs n a.state).left → Err NoSuchOutcome ≡ outlook_by R a n
     unfolding outlook_by lists_of reached_past
     outlook-none k = rw (h, le-ltb n (2 ^ undecided_of xs) (above n (undecided_of xs) k))
 
-    pub outlook-there : (reached_past R xs n a.state).left ≡ 0 → Outlook'.State (reached_past R xs n a.state).state (ones n) ≡ outlook_by R a n
+    pub outlook-there : (reached_past R xs n a.state).left ≡ 0 → Ok (record { state = (reached_past R xs n a.state).state; applied = ones n }) ≡ outlook_by R a n
     unfolding outlook_by lists_of reached_past
     outlook-there k =
         let less = below n (undecided_of xs) k in

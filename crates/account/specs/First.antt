@@ -1,7 +1,7 @@
 -- The first panel on an account (docs/REGISTER.md, 2.3 and 3): the limits, the rule of the events with these limits, an account's calls by it, and what is promised of them.
 -- The definitions and the promises are over any rule of these events; here, once, they are applied to the first panel's.
 -- Assumes nothing.
-use Rattle.std.specs.Prelude.{ℕ, ◌≤◌, ◌≡◌, Bool}
+use Rattle.std.specs.Prelude.{ℕ, ◌≤◌, ◌≡◌, Bool, Result}
 use Rattle.rule.specs.Rule.{Rule, Message}
 use Rattle.events.specs.declared.Event.{Event}
 use Rattle.events.specs.declared.Life.TheVariants.{Opened}
@@ -10,11 +10,11 @@ use Rattle.events.specs.Panel.{first_panel, first_table}
 use Rattle.events.specs.Table.{Table}
 use Rattle.filing.specs.declared.Filed.{Filed}
 use Rattle.filing.specs.Slots.{places}
+use Rattle.refusal.specs.declared.Refusal.{Refusal}
 use Rattle.account.specs.declared.Account.{Account}
-use Rattle.account.specs.declared.Stepped.{Stepped}
 use Rattle.account.specs.declared.Outlook.{Outlook}
 use Rattle.account.specs.InOrder.{in_order_by}
-use Rattle.account.specs.Steps.{step_by, outlook_by}
+use Rattle.account.specs.Steps.{Stepped, step_by, outlook_by}
 use Rattle.account.specs.Promises.{StepPromiseBy}
 use Rattle.account.specs.Questions.{QuestionPromiseBy}
 use Rattle.account.specs.InOrderExactly.{InOrderExactlyBy, BrokenClausesBy}
@@ -43,7 +43,7 @@ in_order_of a = in_order_by panel a
 abbrev pub step_of : Account → Message Filed Event → Stepped
 step_of a m = step_by panel a m
 
-abbrev pub outlook_of : Account → ℕ → Outlook
+abbrev pub outlook_of : Account → ℕ → Result Outlook Refusal
 outlook_of a n = outlook_by panel a n
 
 -- the panel, and the same with the table's effects, are those with 8 places for events in progress and 8 for requests held, whose table is told row by row with the events (2.3, 3.1)

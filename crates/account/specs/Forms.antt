@@ -1,18 +1,20 @@
 -- The forms in which an account and its answers are kept, literally: an account and its lists, what is said of each answer; and that nothing is lost from one form to the other
 -- (docs/REGISTER.md, 2). The forms of a place and of an entry are filing's.
 -- Assumes nothing.
-use Rattle.std.specs.Prelude.{ℕ, ◌-◌, ◌≤◌, ◌≡◌, true, List, map, length, take, drop, replicate}
+use Rattle.std.specs.Prelude.{ℕ, ◌-◌, ◌≤◌, ◌≡◌, true, List, map, length, take, drop, replicate, Ok, Err}
 use Rattle.std.proofs.Math.Option.{none, some}
 use Rattle.events.specs.declared.Event.TheVariants.{Open}
 use Rattle.events.specs.declared.State.{State}
 use Rattle.filing.specs.declared.Decision.TheVariants.{Undecided}
 use Rattle.filing.specs.declared.Slot.{Slot}
+use Rattle.filing.specs.declared.Entries.{Entries}
+use Rattle.filing.specs.declared.Told.TheVariants.{Noted}
 use Rattle.filing.specs.Slots.{RuleSlot, place_of}
+use Rattle.refusal.specs.declared.Refusal.{Refusal}
+use Rattle.refusal.specs.Numbers.{number_of}
 use Rattle.account.specs.declared.Account.{Account}
-use Rattle.account.specs.declared.Answer.TheVariants as Answer'
-use Rattle.account.specs.declared.Outlook.TheVariants as Outlook'
 use Rattle.account.specs.Places.{RuleAccount, lists_of, account_of}
-use Rattle.account.specs.Steps.{refusal_in, shown_by}
+use Rattle.account.specs.Steps.{refusal_in, entries_in, shown_by}
 use Rattle.account.specs.First.{in_order_of}
 
 -- the list from the first place on, then blanks, 8 in all
@@ -34,10 +36,12 @@ NothingElse = (a : Account) → length a.progress ≡ 8 → length a.held ≡ 8 
 
 -- what is said of each answer
 pub record AnswerForm : Type 0 where
-  pub refused : (n : ℕ) → refusal_in (Answer'.Refused n) ≡ some n
-  pub taken : refusal_in Answer'.Taken ≡ none
-  pub question_refused : (n : ℕ) → shown_by (Outlook'.Refused n) ≡ record { refusal = some n; state = none; applied = 0 }
-  pub question_answered : (s : State) (n : ℕ) → shown_by (Outlook'.State s n) ≡ record { refusal = none; state = some s; applied = n }
+  pub refused : (r : Refusal) → refusal_in (Err r) ≡ some (number_of r)
+  pub silent : (r : Refusal) → entries_in (Err r) ≡ record { at = replicate 17 (record { transaction = 0; filed = record { second = 0 }; told = Noted }); count = 0 }
+  pub taken : (entries : Entries) → refusal_in (Ok entries) ≡ none
+  pub written : (entries : Entries) → entries_in (Ok entries) ≡ entries
+  pub question_refused : (r : Refusal) → shown_by (Err r) ≡ record { refusal = some (number_of r); state = none; applied = 0 }
+  pub question_answered : (s : State) (n : ℕ) → shown_by (Ok (record { state = s; applied = n })) ≡ record { refusal = none; state = some s; applied = n }
 
 pub record FormsHold : Type 0 where
   pub accounts : (a : RuleAccount) → AccountForm a

@@ -1,7 +1,7 @@
 -- Each way that a step of an account and the outcome question can take, with all that it gives, by any rule of the events and whatever the places hold; and the account's lists, literally
 -- (docs/REGISTER.md, 2.3, 10.1 and 11.2).
 -- Assumes nothing.
-use Rattle.std.specs.Prelude.{ℕ, ◌^◌, ◌≤◌, ◌<◌, ◌≡◌, true, false, ◌&&◌, List, map, leb, take, drop, replicate}
+use Rattle.std.specs.Prelude.{ℕ, ◌^◌, ◌≤◌, ◌<◌, ◌≡◌, true, false, ◌&&◌, List, map, leb, take, drop, Ok, Err}
 use Rattle.std.specs.Int.Count.{ones}
 use Rattle.rule.specs.Rule as rule
 use Rattle.rule.specs.Call as Rule-Call
@@ -12,12 +12,11 @@ use Rattle.rule.specs.Exact.{chosen_state}
 use Rattle.events.specs.declared.Event.{Event}
 use Rattle.events.specs.declared.State.{State}
 use Rattle.filing.specs.declared.Filed.{Filed}
-use Rattle.filing.specs.declared.Told.TheVariants.{Noted}
 use Rattle.filing.specs.Slots.{slot_of, is_blank}
 use Rattle.filing.specs.Entries.{RuleEntry, entries_of}
+use Rattle.refusal.specs.declared.Refusal.TheVariants.{NotInOrder, NoSuchOutcome}
+use Rattle.refusal.specs.Numbers.{numbered}
 use Rattle.account.specs.declared.Account.{Account}
-use Rattle.account.specs.declared.Answer.TheVariants as Answer'
-use Rattle.account.specs.declared.Outlook.TheVariants as Outlook'
 use Rattle.account.specs.Places.{lists_of, account_of}
 use Rattle.account.specs.InOrder.{in_order_by}
 use Rattle.account.specs.Steps.{step_by, outlook_by}
@@ -38,31 +37,21 @@ module _ (R : rule.Rule State Event ℕ) where
       && every is_blank (drop a.holding a.held)
       && is_in_order R (record { state = a.state; progress = map slot_of (take a.progressing a.progress); held = map slot_of (take a.holding a.held) }))
 
-  -- a step: 5, and then the rule's answer; a refusal leaves the account and brings no entry
+  -- a step: 5, and then the rule's answer; a refusal leaves the account and is all that is answered
   pub record StepPlain (a : Account) (m : rule.Message Filed Event) : Type 0 where
     pub out_of_order : in_order_by R a ≡ false
-        → step_by R a m
-        ≡ record {
-          account = a;
-          entries = record { at = replicate 17 (record { transaction = 0; filed = record { second = 0 }; told = Noted }); count = 0 };
-          answer = Answer'.Refused 5;
-        }
+        → step_by R a m ≡ record { account = a; answer = Err NotInOrder }
     pub refused : (n : ℕ) → in_order_by R a ≡ true → (Rule-Call.call R (lists_of a) m).answer ≡ Rule-Call.refused n
-        → step_by R a m
-        ≡ record {
-          account = a;
-          entries = record { at = replicate 17 (record { transaction = 0; filed = record { second = 0 }; told = Noted }); count = 0 };
-          answer = Answer'.Refused n;
-        }
+        → step_by R a m ≡ record { account = a; answer = Err (numbered n) }
     pub taken : (xs : List RuleEntry) → in_order_by R a ≡ true → (Rule-Call.call R (lists_of a) m).answer ≡ Rule-Call.taken xs
-        → step_by R a m ≡ record { account = account_of (Rule-Call.call R (lists_of a) m).account; entries = entries_of xs; answer = Answer'.Taken }
+        → step_by R a m ≡ record { account = account_of (Rule-Call.call R (lists_of a) m).account; answer = Ok (entries_of xs) }
 
   -- the outcome question: 5, whatever the number is; 12 from 2 to the power u on; else the state by the bits of the number, and how many of them are 1
   pub record QuestionPlain (a : Account) (n : ℕ) : Type 0 where
-    pub out_of_order : in_order_by R a ≡ false → outlook_by R a n ≡ Outlook'.Refused 5
-    pub no_outcome : in_order_by R a ≡ true → 2 ^ undecided_of (map slot_of (take a.progressing a.progress)) ≤ n → outlook_by R a n ≡ Outlook'.Refused 12
+    pub out_of_order : in_order_by R a ≡ false → outlook_by R a n ≡ Err NotInOrder
+    pub no_outcome : in_order_by R a ≡ true → 2 ^ undecided_of (map slot_of (take a.progressing a.progress)) ≤ n → outlook_by R a n ≡ Err NoSuchOutcome
     pub answered : in_order_by R a ≡ true → n < 2 ^ undecided_of (map slot_of (take a.progressing a.progress))
-        → outlook_by R a n ≡ Outlook'.State (chosen_state R (map slot_of (take a.progressing a.progress)) (bit n) a.state) (ones n)
+        → outlook_by R a n ≡ Ok (record { state = chosen_state R (map slot_of (take a.progressing a.progress)) (bit n) a.state; applied = ones n })
 
 pub record PlainHolds : Type 0 where
   pub lists : ListsPlain

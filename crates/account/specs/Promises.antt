@@ -18,7 +18,7 @@ use Rattle.filing.specs.Entries.{entry_of}
 use Rattle.account.specs.declared.Account.{Account}
 use Rattle.account.specs.Places.{lists_of}
 use Rattle.account.specs.InOrder.{in_order_by}
-use Rattle.account.specs.Steps.{refusal_in, step_by}
+use Rattle.account.specs.Steps.{refusal_in, entries_in, step_by}
 
 abbrev pub is_committed : Decision → Bool
 is_committed Undecided = false
@@ -57,13 +57,13 @@ module _ (R : rule.Rule State Event ℕ) (held_limit : ℕ) where
     -- a refusal leaves the account as it is and writes nothing;
     pub unchanged : (number : ℕ) → refusal_in (step_by R a m).answer ≡ some number → (step_by R a m).account ≡ a
     pub silent : (number : ℕ) → refusal_in (step_by R a m).answer ≡ some number
-        → (step_by R a m).entries ≡ record { at = replicate 17 (record { transaction = 0; filed = record { second = 0 }; told = Noted }); count = 0 }
+        → entries_in (step_by R a m).answer ≡ record { at = replicate 17 (record { transaction = 0; filed = record { second = 0 }; told = Noted }); count = 0 }
     -- else the account has the lists that the rule's call gives, and the entries are the rule's
     pub lists : refusal_in (step_by R a m).answer ≡ none → lists_of (step_by R a m).account ≡ (call R (lists_of a) m).account
     pub entries : refusal_in (step_by R a m).answer ≡ none
-        → take (step_by R a m).entries.count (step_by R a m).entries.at ≡ map entry_of (written (call R (lists_of a) m).answer)
+        → take (entries_in (step_by R a m).answer).count (entries_in (step_by R a m).answer).at ≡ map entry_of (written (call R (lists_of a) m).answer)
     -- and there are never more entries than places for them
-    pub few : (step_by R a m).entries.count ≤ 17
+    pub few : (entries_in (step_by R a m).answer).count ≤ 17
 
   abbrev pub StepPromiseBy : Type 0
   StepPromiseBy = (a : Account) (m : rule.Message Filed Event) → StepAnsweredBy a m

@@ -24,17 +24,16 @@ impl Account {
     pub(crate) const BOTH: usize = Account::PLACES + Account::PLACES;
 
     // Whether the account is in order.
-    pub fn in_order(self) -> bool
-        ensures { result ≡ in_order_of self }
+    pub fn in_order(&self) -> bool
+        ensures { result ≡ in_order_of self.now }
     {
-        let judged = self.judge(0);
-        judged.in_order
+        self.judge(0).in_order
     }
 
     // Judges the account, and looks for a transaction. The loops stand in this body, and each event in progress is looked at once: handing a row to a helper costs a copy of it.
     // At an unused place that is not blank it stops, so that the compiler does not carry a test through these loops.
-    pub(crate) fn judge(self, transaction: u32) -> Judged
-        ensures { Judges self transaction result }
+    pub(crate) fn judge(&self, transaction: u32) -> Judged
+        ensures { Judges self.now transaction result }
     {
         let state = self.state;
         let progressing = self.progressing;

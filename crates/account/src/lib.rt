@@ -8,7 +8,7 @@ mod refusing;
 mod steps;
 
 use events::State;
-use filing::{Entries, Slot};
+use filing::Slot;
 
 // An account: the first `progressing` places of `progress` and the first `holding` of `held` are used, in arrival order; the others are blank.
 #[derive(Clone, Copy, Drop)]
@@ -20,26 +20,11 @@ pub struct Account {
     pub holding: usize,
 }
 
-// What a step answers: the number of its refusal, or that it was taken.
+// What the outcome question tells: the state, and the number of undecided events applied in it (11.2).
 #[derive(Clone, Copy, Drop)]
-pub enum Answer {
-    Refused(u8),
-    Taken,
-}
-
-// What a step gives: the account that follows, the entries written, and the answer.
-#[derive(Clone, Copy, Drop)]
-pub struct Stepped {
-    pub account: Account,
-    pub entries: Entries,
-    pub answer: Answer,
-}
-
-// What the outcome question answers: the number of its refusal, or the state and the number of undecided events applied in it (11.2).
-#[derive(Clone, Copy, Drop)]
-pub enum Outlook {
-    Refused(u8),
-    State(State, u32),
+pub struct Outlook {
+    pub state: State,
+    pub applied: u32,
 }
 
 impl Account {

@@ -84,7 +84,7 @@ impl Outcomes {
     {
         match verdict {
             Verdict::Accepted => 0,
-            Verdict::Rejected => event.reason(self.first),
+            Verdict::Rejected => event.reason_byte(self.first),
             Verdict::Held => 0,
         }
     }
@@ -111,9 +111,9 @@ impl Outcomes {
 
 impl Account {
     // What is known of the outcomes of the events in progress, an event at a time.
-    pub(crate) fn outcomes(self) -> Outcomes
-        requires { self.progressing ≤ places }
-        ensures { Knows self.state (used self.progress self.progressing) result }
+    pub(crate) fn outcomes(&self) -> Outcomes
+        requires { self.now.progressing ≤ places }
+        ensures { Knows self.now.state (used self.now.progress self.now.progressing) result }
     {
         let state = self.state;
         let mut outcomes = Outcomes::of(state);

@@ -6,6 +6,7 @@ ghost use Rattle.account.specs.inside.First.{followed};
 use crate::{Account, Outlook};
 use events::State;
 use filing::Slot;
+use refusal::Refusal;
 
 // A state on the way through the events in progress, and what is left of the outcome's number.
 #[derive(Clone, Copy, Drop)]
@@ -15,13 +16,13 @@ struct Reached {
 }
 
 impl Account {
-    // The state in the outcome of this number, and the number of undecided events applied in it; 5, then 12, where it is refused.
+    // The state in the outcome of this number, and the number of undecided events applied in it; not in order, then no such outcome, where it is refused.
     // What is left of the number past all events is 0 exactly if there is an outcome of that number.
-    pub fn outlook(self, number: u32) -> Outlook
-        ensures { result ≡ outlook_of self number }
+    pub fn outlook(&self, number: u32) -> Result<Outlook, Refusal>
+        ensures { result ≡ outlook_of self.now number }
     {
         if !self.in_order() {
-            return Outlook::Refused(5);
+            return Err(Refusal::NotInOrder);
         }
         let state = self.state;
         let mut reached = Reached {
@@ -35,10 +36,12 @@ impl Account {
             at += 1;
         }
         if 0 < reached.left {
-            return Outlook::Refused(12);
+            return Err(Refusal::NoSuchOutcome);
         }
-        let answer = reached.state;
-        Outlook::State(answer, u32::count_ones(number))
+        Ok(Outlook {
+            state: reached.state,
+            applied: number.count_ones(),
+        })
     }
 }
 

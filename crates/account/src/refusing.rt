@@ -1,78 +1,75 @@
-// The refusals 5 to 11 of request, commit and abort, in their order (docs/REGISTER.md, 10.1).
+// The refusals of request, commit and abort, in their order (docs/REGISTER.md, 10.1).
 ghost use Rattle.std.specs.Prelude.{◌≡◌};
-ghost use Rattle.account.specs.inside.Judged.{request_answer, commit_answer, abort_answer};
-ghost use Rattle.account.specs.inside.First.{answer_of};
+ghost use Rattle.account.specs.inside.Judged.{waits, is_named, commit_answer, abort_answer};
+ghost use Rattle.account.specs.inside.First.{request_answer};
 
+use crate::Account;
 use crate::judging::Judged;
-use crate::{Account, Answer};
-
-// What is asked of an account.
-#[derive(Clone, Copy, Drop)]
-pub(crate) enum Asked {
-    Request,
-    Commit,
-    Abort,
-}
+use refusal::Refusal;
 
 impl Judged {
-    // The answer to what is asked, with so many requests held: 5 where the account is not in order, else by what was found.
-    pub(crate) fn answer(self, asked: Asked, holding: usize) -> Answer
-        ensures { result ≡ answer_of self asked holding }
+    // Whether a request is taken, with so many requests held: not where the account has the transaction already, then not where no place to hold is left.
+    pub(crate) fn for_request(&self, holding: usize) -> Result<(), Refusal>
+        ensures { result ≡ request_answer self.now holding }
     {
         if !self.in_order {
-            return Answer::Refused(5);
+            return Err(Refusal::NotInOrder);
         }
-        let slot = self.slot;
-        let decision = slot.decision;
-        let waits = self.request < Account::PLACES;
-        let named = (self.event < Account::PLACES) | waits;
-        let committed = !decision.is_undecided();
-        match asked {
-            Asked::Request => answer_to_request(named, Account::HELD <= holding),
-            Asked::Commit => answer_to_commit(named, waits, committed),
-            Asked::Abort => answer_to_abort(named, committed),
+        if self.is_named() {
+            return Err(Refusal::KnownTransaction);
         }
+        if Account::HELD <= holding {
+            return Err(Refusal::AllHeld);
+        }
+        Ok(())
     }
-}
 
-// 6 where the account has the transaction already, then 7 where no place to hold is left.
-fn answer_to_request(named: bool, full: bool) -> Answer
-    ensures { result ≡ request_answer named full }
-{
-    if named {
-        return Answer::Refused(6);
+    // Whether a commit is taken: not where the account does not have the transaction, then not if it is held, not if it is committed.
+    pub(crate) fn for_commit(&self) -> Result<(), Refusal>
+        ensures { result ≡ commit_answer self.now }
+    {
+        if !self.in_order {
+            return Err(Refusal::NotInOrder);
+        }
+        if !self.is_named() {
+            return Err(Refusal::UnknownTransaction);
+        }
+        if self.waits() {
+            return Err(Refusal::HeldTransaction);
+        }
+        if !self.slot.decision.is_undecided() {
+            return Err(Refusal::CommittedAlready);
+        }
+        Ok(())
     }
-    if full {
-        return Answer::Refused(7);
-    }
-    Answer::Taken
-}
 
-// 8 where the account does not have the transaction, then 9 if it is held, 10 if it is committed.
-fn answer_to_commit(named: bool, waits: bool, committed: bool) -> Answer
-    ensures { result ≡ commit_answer named waits committed }
-{
-    if !named {
-        return Answer::Refused(8);
+    // Whether an abort is taken: not where the account does not have the transaction, then not if it is committed.
+    pub(crate) fn for_abort(&self) -> Result<(), Refusal>
+        ensures { result ≡ abort_answer self.now }
+    {
+        if !self.in_order {
+            return Err(Refusal::NotInOrder);
+        }
+        if !self.is_named() {
+            return Err(Refusal::UnknownTransaction);
+        }
+        if !self.slot.decision.is_undecided() {
+            return Err(Refusal::CommittedBefore);
+        }
+        Ok(())
     }
-    if waits {
-        return Answer::Refused(9);
-    }
-    if committed {
-        return Answer::Refused(10);
-    }
-    Answer::Taken
-}
 
-// 8 where the account does not have the transaction, then 11 if it is committed.
-fn answer_to_abort(named: bool, committed: bool) -> Answer
-    ensures { result ≡ abort_answer named committed }
-{
-    if !named {
-        return Answer::Refused(8);
+    // Whether the transaction is held.
+    fn waits(&self) -> bool
+        ensures { result ≡ waits self.now }
+    {
+        self.request < Account::PLACES
     }
-    if committed {
-        return Answer::Refused(11);
+
+    // Whether the account has the transaction, in progress or held.
+    fn is_named(&self) -> bool
+        ensures { result ≡ is_named self.now }
+    {
+        (self.event < Account::PLACES) | self.waits()
     }
-    Answer::Taken
 }

@@ -26,8 +26,9 @@ use Rattle.filing.specs.declared.Filed.{Filed}
 use Rattle.filing.specs.Slots.{places, blank_filed}
 use Rattle.filing.specs.Entries.{RuleEntry, weighing_in, entry_of, entries_of, blank_entry, most}
 use Rattle.filing.proofs.Filled.{first-filled}
+use Rattle.refusal.specs.declared.Refusal.TheVariants.{NoRoom}
 use Rattle.layout.specs.Fields.{row_of_kind}
-use Rattle.layout.specs.Answers.{said_of_writing, wrote_over, refused_with}
+use Rattle.layout.specs.Writes.{said_of_writing, wrote_over, refused_with}
 use Rattle.entry.specs.Bytes.{entry_rows, length_of_told, bytes_of_entries, wholes_of, list_of}
 use Rattle.entry.specs.Answers.{longest_call, write_of}
 use Rattle.entry.specs.Longest.{CallFits, CallsFit, CallsRefused, full_account, filling, LongestBy}
@@ -151,7 +152,7 @@ calls-refused xs fit account buffer = go (ltb (length buffer) longest_call) refl
     bytes = bytes_of_entries account (list_of (entries_of xs))
 
     go : (b : Bool) → ltb (length buffer) longest_call ≡ b
-        → (said_of_writing (cond b (refused_with 4 buffer) (cond (ltb (length buffer) (length bytes)) (refused_with 4 buffer) (wrote_over bytes buffer))).answer).refusal
+        → (said_of_writing (cond b (refused_with NoRoom buffer) (cond (ltb (length buffer) (length bytes)) (refused_with NoRoom buffer) (wrote_over bytes buffer))).answer).refusal
         ≡ cond b (some 4) none
     go true e = refl
     go false e =

@@ -8,6 +8,7 @@ use mathlib.Core.Logic.{inl, inr}
 use mathlib.Core.Bool.{Bool, true, false, cond, not, ◌&&◌, ◌||◌, false≢true}
 use mathlib.Core.List.{List}
 use borrow.Author.Tests.{ltb-true, ltb-false}
+use Rattle.std.specs.Prelude.{Option, Some, None}
 use lib.Dec.{eqb, leb, ltb, lit<}
 use lib.ListN.{length, get_or}
 use Rattle.events.specs.declared.Event.{Event}
@@ -25,10 +26,9 @@ use Rattle.layout.proofs.Tables.{present}
 use Rattle.events.proofs.Table.{event-is}
 use Rattle.layout.proofs.Plain.{numbers-plain}
 use Rattle.layout.proofs.Heading.{filed-plain}
-use Rattle.entry.specs.declared.EntryReading.{EntryReading}
-use Rattle.entry.specs.declared.EntryReading.TheVariants.{Found, Nothing}
+use Rattle.entry.specs.declared.Found.{Found}
 use Rattle.entry.specs.Bytes.{entry_rows, verdict_by, told_by}
-use Rattle.entry.specs.Answers.{said_of_entry, event_fits, read_of}
+use Rattle.entry.specs.Answers.{said_of_entry, found_as, event_fits, read_of}
 use Rattle.entry.specs.Plain.{vote, length_as, EventStands, VoteStands, Stands, Begins, ReaderFinds, kind_length, no_entry, nothing, ReaderFindsNone}
 use Rattle.entry.proofs.Shapes.{event-fits}
 use Rattle.entry.proofs.Reading.{number_after, reason_after, entry_at, fits_read, told-read, read-unknown, read_short, read-account, read-fitting}
@@ -103,7 +103,7 @@ module _ (bytes : List ℕ) (kind : ℕ) (p : 0 < whole_of (row_of_kind entry_ro
       entry_rows kind (refl, (refl, (refl, (refl, (refl, (refl, (refl, tt))))))) p
 
 -- what was found stands at the beginning
-found-begins : (bytes : List ℕ) (e : Entry) (kind account whole : ℕ) → read_of bytes ≡ Found e kind account whole → Begins bytes e kind account whole
+found-begins : (bytes : List ℕ) (e : Entry) (kind account whole : ℕ) → read_of bytes ≡ found_as e kind account whole → Begins bytes e kind account whole
 unfolding numbers_at
 found-begins bytes e kind account whole r =
     let n = numbers-plain bytes in
@@ -162,7 +162,7 @@ module _ (bytes : List ℕ) {kind : ℕ} (first : get_or bytes 0 0 ≡ kind) whe
   parts (Dropped e) s =
       let v = event-at bytes e s.1 in rw (← first, s.0) (record { told' = ap Dropped v.0; fitting = v.1; whole = refl; positive = lit< tt })
 
-begins-found : (bytes : List ℕ) (e : Entry) (kind account whole : ℕ) → Begins bytes e kind account whole → read_of bytes ≡ Found e kind account whole
+begins-found : (bytes : List ℕ) (e : Entry) (kind account whole : ℕ) → Begins bytes e kind account whole → read_of bytes ≡ found_as e kind account whole
 begins-found bytes e kind account whole b =
     let n = numbers-plain bytes in
     let q = parts bytes b.kind' e.told b.stands in
@@ -174,19 +174,19 @@ begins-found bytes e kind account whole b =
 
 pub reader-finds : ReaderFinds
 reader-finds bytes e kind account whole = (
-  (λ g. found-begins bytes e kind account whole (readings-apart (read_of bytes) (Found e kind account whole) g)),
+  (λ g. found-begins bytes e kind account whole (readings-apart (read_of bytes) (found_as e kind account whole) g)),
   (λ b. ap said_of_entry (begins-found bytes e kind account whole b)),
 )
 
 -- ---- where nothing is found
 
-abbrev is_nothing : EntryReading → Bool
-is_nothing (Found e kind account whole) = false
-is_nothing Nothing = true
+abbrev is_nothing : Option (Found × ℕ) → Bool
+is_nothing (Some f) = false
+is_nothing None = true
 
 -- what follows the heading does not fit
-unfit : (t a b c : Bool) (x : EntryReading) → is_nothing x ≡ false
-    → is_nothing (cond (cond t true (a && (not b || c))) x Nothing) ≡ (not t && (not a || (b && not c)))
+unfit : (t a b c : Bool) (x : Option (Found × ℕ)) → is_nothing x ≡ false
+    → is_nothing (cond (cond t true (a && (not b || c))) x None) ≡ (not t && (not a || (b && not c)))
 unfit true a b c x h = h
 unfit false false b c x h = refl
 unfit false true false c x h = h
@@ -225,17 +225,17 @@ none-by bytes = go (leb 17 kind && leb kind 23) (ltb (length bytes) (kind_length
         rw (read-account bytes kind (kind_length kind) k (whole true p) (λ n. omega (arith, some_bytes)) (ltb-false (length bytes) (kind_length kind) q) (rw (numbers-plain bytes 5 0).read2 (ltb-true 15 (two_at bytes 5) r)))
     go true false false p q r =
         let e = read-fitting bytes kind (kind_length kind) k (whole true p) (λ n. omega (arith, some_bytes)) (ltb-false (length bytes) (kind_length kind) q) (rw (numbers-plain bytes 5 0).read2 (ltb-false 15 (two_at bytes 5) r)) in
-        let found = Found (entry_at bytes kind) kind (number_at bytes 5 2) (kind_length kind) in
+        let found = found_as (entry_at bytes kind) kind (number_at bytes 5 2) (kind_length kind) in
         let event = number_at bytes 11 1 in
         rw (e, ← (numbers-plain bytes 11 0).read1, ← (numbers-plain bytes 12 0).read4)
         (unfit (eqb kind 20) (leb 1 event && leb event 4) (eqb event 4) (eqb (number_at bytes 12 4) 0) found refl)
 
 pub reader-finds-none : ReaderFindsNone
 reader-finds-none bytes = (
-  (λ g. sym (none-by bytes) ∙ ap is_nothing (readings-apart (read_of bytes) Nothing g)),
+  (λ g. sym (none-by bytes) ∙ ap is_nothing (readings-apart (read_of bytes) None g)),
   (λ h. go (read_of bytes) (none-by bytes ∙ h)),
 )
   where
-    go : (x : EntryReading) → is_nothing x ≡ true → said_of_entry x ≡ nothing
-    go (Found e kind account whole) h = absurd (false≢true h)
-    go Nothing h = refl
+    go : (x : Option (Found × ℕ)) → is_nothing x ≡ true → said_of_entry x ≡ nothing
+    go (Some f) h = absurd (false≢true h)
+    go None h = refl

@@ -7,7 +7,8 @@ use mathlib.Core.Path.{◌≡◌, refl, ap, sym, ◌∙◌}
 use mathlib.Core.Bool.{Bool, true, false, cond, ◌&&◌, ◌||◌, not}
 use mathlib.Core.Logic.{inl, inr}
 use mathlib.Core.List.{List, [], ◌∷◌, ◌++◌}
-use mathlib.Core.Option.{Option}
+use mathlib.Core.Option as math
+use Rattle.std.specs.Prelude.{Option, None}
 use borrow.Author.Tests.{eqb-true, eqb-false, leb-true}
 use lib.Dec.{eqb, leb}
 use lib.ListN.{length, get_or, take, drop, length-append}
@@ -24,10 +25,9 @@ use Rattle.layout.proofs.Heading.{fit-heading, filed_at, filed-fits}
 use Rattle.layout.proofs.Shapes.{found-holds}
 use Rattle.layout.proofs.Tables.{present}
 use Rattle.layout.proofs.Reading.{taken-row, taken-by, read_written}
-use Rattle.entry.specs.declared.EntryReading.{EntryReading}
-use Rattle.entry.specs.declared.EntryReading.TheVariants.{Found, Nothing}
+use Rattle.entry.specs.declared.Found.{Found}
 use Rattle.entry.specs.Bytes.{entry_rows, kind_of, then_numbers, bytes_as, bytes_of_entry, length_of_told, verdict_by, told_by, entry_from}
-use Rattle.entry.specs.Answers.{event_fits, then_fits, entry_reader, read_of}
+use Rattle.entry.specs.Answers.{SaidOfEntry, said_of_entry, found_as, event_fits, then_fits, entry_reader, read_of}
 use Rattle.entry.specs.Inverse.{StandsAs, ReadsWritten, ReadsStanding, Read, WritesRead, WritesOwn}
 use Rattle.entry.proofs.Booleans.{both}
 use Rattle.entry.proofs.Shapes.{rows-hold, then_as, Alone, standing}
@@ -73,7 +73,7 @@ unfolding bytes_of_entry length_of_told
 reads-written account e after p = reads-standing (kind_of e.told) account e after p (inl refl)
 
 -- what an entry that was read says of the row by which it was read
-pub record Taken (found : Option KindRow) (bytes : List ℕ) (kind account : ℕ) (e : Entry) (whole : ℕ) : Type 0 where
+pub record Taken (found : math.Option KindRow) (bytes : List ℕ) (kind account : ℕ) (e : Entry) (whole : ℕ) : Type 0 where
   pub positive : 0 < whole_of found
   pub enough : whole_of found ≤ length bytes
   pub fitting : then_fits (drop 4 (numbers_at (widths_of found) bytes 0)) ≡ true
@@ -83,34 +83,36 @@ pub record Taken (found : Option KindRow) (bytes : List ℕ) (kind account : ℕ
   pub entry : entry_from (numbers_at (widths_of found) bytes 0) ≡ e
   pub length' : whole_of found ≡ whole
 
-nothing-found : (e : Entry) (kind account whole : ℕ) → Nothing ≡ Found e kind account whole → ⊥
-nothing-found e kind account whole n = let z : ◌≡◌ {A = ℕ} 0 1 = cc in omega arith
+nothing-found : (e : Entry) (kind account whole : ℕ) → None ≡ found_as e kind account whole → ⊥
+nothing-found e kind account whole n = cc
 
 -- an entry comes out where a test for one is true
-held : (b : Bool) (next : EntryReading) (e : Entry) (kind account whole : ℕ) → cond b next Nothing ≡ Found e kind account whole
-    → (b ≡ true) × (next ≡ Found e kind account whole)
+held : (b : Bool) (next : Option (Found × ℕ)) (e : Entry) (kind account whole : ℕ) → cond b next None ≡ found_as e kind account whole
+    → (b ≡ true) × (next ≡ found_as e kind account whole)
 held true next e kind account whole n = (refl, n)
 held false next e kind account whole n = absurd (nothing-found e kind account whole n)
 
-pub taken_of : (bytes : List ℕ) (kind account : ℕ) (e : Entry) (whole : ℕ) → read_of bytes ≡ Found e kind account whole
+pub taken_of : (bytes : List ℕ) (kind account : ℕ) (e : Entry) (whole : ℕ) → read_of bytes ≡ found_as e kind account whole
     → Taken (row_of_kind entry_rows (number_at bytes 0 1)) bytes kind account e whole
 unfolding read_of
 taken_of bytes kind account e whole n =
     let found = row_of_kind entry_rows (number_at bytes 0 1) in
     let numbers = numbers_at (widths_of found) bytes 0 in
     let no = nothing-found e kind account whole in
-    let t = taken-by entry_reader (Found e kind account whole) no no no entry_rows (number_at bytes 0 1) bytes every-length n in
-    let entry = Found (entry_from numbers) (get_or numbers 0 0) (get_or numbers 2 0) (whole_of found) in
+    let t = taken-by entry_reader (found_as e kind account whole) no no no entry_rows (number_at bytes 0 1) bytes every-length n in
+    let entry = found_as (entry_from numbers) (get_or numbers 0 0) (get_or numbers 2 0) (whole_of found) in
     let u = held (then_fits (drop 4 numbers)) entry e kind account whole t.answered in
+    let said = ap said_of_entry u.1 in
+    let read = ap (λ (s : SaidOfEntry). s.entry) said in
     record {
       positive = t.positive;
       enough = t.enough;
       fitting = u.0;
       known = t.account;
-      kind' = cc u.1;
-      account' = cc u.1;
-      entry = cc u.1;
-      length' = cc u.1;
+      kind' = ap (λ (s : SaidOfEntry). s.kind) said;
+      account' = ap (λ (s : SaidOfEntry). s.account) said;
+      entry = cc;
+      length' = ap (λ (s : SaidOfEntry). s.length') said;
     }
 
 -- an event that fits is the one of its kind and amount

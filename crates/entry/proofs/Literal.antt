@@ -10,17 +10,16 @@ use borrow.Author.Tests.{lt-ltb, le-ltb}
 use lib.ListN.{length}
 use Rattle.rule.specs.Lists.{keep}
 use Rattle.filing.specs.declared.Entry.{Entry}
-use Rattle.filing.specs.declared.Entries.{Entries}
-use Rattle.entry.specs.Bytes.{bytes_of_entries, wholes_of, list_of}
+use Rattle.entry.specs.Bytes.{bytes_of_entries, wholes_of}
 use Rattle.entry.specs.Answers.{longest_call, write_of}
 use Rattle.entry.specs.Longest.{is_rejection, rejections}
 use Rattle.entry.specs.Literal.{WriterLiteral, LiteralHolds}
 use Rattle.entry.proofs.Shapes.{accepted-apart, held-apart}
 
-writer-literal : (entries : Entries) (account : ℕ) (buffer : List ℕ) → WriterLiteral entries account buffer
+writer-literal : (entries : List Entry) (account : ℕ) (buffer : List ℕ) → WriterLiteral entries account buffer
 unfolding write_of
 writer-literal entries account buffer =
-    let bytes = bytes_of_entries account (list_of entries) in
+    let bytes = bytes_of_entries account entries in
     record {
       short = λ h. rw (lt-ltb (length buffer) longest_call h) refl;
       roomless = λ h k. rw (le-ltb (length buffer) longest_call h, lt-ltb (length buffer) (length bytes) k) refl;
@@ -98,6 +97,6 @@ literal-holds =
             more_writable = (λ w. w, λ w. w);
             more_read = (λ w. w, λ w. w);
           };
-      answers = λ e kind account whole entries. record { found' = refl; nothing' = refl; used = refl; longest = refl };
+      answers = λ e kind account whole entries. record { found' = refl; as' = refl; nothing' = refl; used = refl; longest = refl };
       writer = writer-literal;
     }

@@ -8,7 +8,7 @@ use mathlib.Core.Bool.{Bool, true, false, cond, ◌&&◌}
 use mathlib.Core.List.{List, [], ◌∷◌, ◌++◌, append-nil, append_assoc}
 use borrow.Author.Tests.{leb-true, leb-false, eqb-true, eqb-false, le-ltb}
 use lib.Dec.{eqb, leb}
-use lib.ListN.{length, take, drop}
+use lib.ListN.{length, drop}
 use lib.Seq.{drop_at}
 use Rattle.events.specs.declared.Event.{Event}
 use Rattle.events.specs.declared.Event.TheVariants.{Open, Withdraw, Deposit, Close}
@@ -16,7 +16,7 @@ use Rattle.filing.specs.declared.Entry.{Entry}
 use Rattle.layout.specs.Number.{bytes_of}
 use Rattle.layout.specs.Fields.{written, row_of_kind, whole_of}
 use Rattle.events.specs.Kinds.{event_kind, amount_of}
-use Rattle.layout.specs.Answers.{wrote_over}
+use Rattle.layout.specs.Writes.{wrote_over}
 use Rattle.layout.proofs.Plain.{numbers-plain}
 use Rattle.entry.specs.Bytes.{entry_rows, bytes_as, bytes_of_entry, bytes_of_entries, wholes_of, length_of_told}
 use Rattle.entry.specs.Answers.{write_of}
@@ -111,8 +111,7 @@ all_read account (e ∷ es) rest p =
 pub writer-read-back : WriterReadBack
 unfolding write_of
 writer-read-back entries account buffer p room fits =
-    let es = take entries.count entries.at in
-    let bytes = bytes_of_entries account es in
-    let n : length bytes ≡ lengths_in es = length-bytes account es in
+    let bytes = bytes_of_entries account entries in
+    let n : length bytes ≡ lengths_in entries = length-bytes account entries in
     let t : write_of entries account buffer ≡ wrote_over bytes buffer = rw (le-ltb (length buffer) 323 room, le-ltb (length buffer) (length bytes) (rw n fits)) in
-    record { answer = rw (t, n); back = rw t (all_read account es (drop (length bytes) buffer) p) }
+    record { answer = rw (t, n); back = rw t (all_read account entries (drop (length bytes) buffer) p) }

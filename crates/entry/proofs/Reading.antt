@@ -5,6 +5,7 @@ use native.Mathlib.Omega.{arith}
 use mathlib.Core.Path.{◌≡◌, refl, sym, ◌∙◌}
 use mathlib.Core.Bool.{true, cond, ◌||◌}
 use mathlib.Core.List.{List, map}
+use Rattle.std.specs.Prelude.{None}
 use lib.Dec.{eqb, lit<}
 use lib.ListN.{length, get_or}
 use Rattle.filing.specs.declared.Entry.{Entry}
@@ -19,9 +20,8 @@ use Rattle.layout.proofs.Tables.{Each, present, unknown}
 use Rattle.layout.proofs.Heading.{filed_at}
 use Rattle.layout.proofs.Shapes.{shape-whole}
 use Rattle.layout.proofs.Reading.{short_row, elsewhere-row, taken-row, shape-unknown, shape-short, row_at, shape-elsewhere, shape-taken}
-use Rattle.entry.specs.declared.EntryReading.TheVariants.{Found, Nothing}
 use Rattle.entry.specs.Bytes.{entry_rows, told_by, entry_by, entry_from}
-use Rattle.entry.specs.Answers.{event_fits, then_fits, entry_reader, read_of}
+use Rattle.entry.specs.Answers.{found_as, event_fits, then_fits, entry_reader, read_of}
 use Rattle.entry.proofs.Shapes.{rows-hold}
 
 -- the entry that the bytes hold by its places: the number that follows the event, of the width that the kind gives it,
@@ -87,22 +87,22 @@ every-length = omega arith
 
 -- by the row of the kind
 module _ (bytes : List ℕ) (kind whole : ℕ) (k : kind ≡ number_at bytes 0 1) (w : whole ≡ whole_of (row_of_kind entry_rows kind)) where
-  pub read-unknown : whole ≡ 0 → read_of bytes ≡ Nothing
+  pub read-unknown : whole ≡ 0 → read_of bytes ≡ None
   read-unknown z = by_kind bytes kind k ∙ rw (unknown entry_rows kind every-length (sym w ∙ z))
 
-  pub read_short : length bytes < whole → read_of bytes ≡ Nothing
+  pub read_short : length bytes < whole → read_of bytes ≡ None
   read_short h = by_kind bytes kind k ∙ short_row entry_reader (row_of_kind entry_rows kind) bytes (rw w at h)
 
   module _ (z : whole ≡ 0 → ⊥) (h : whole ≤ length bytes) where
     positive : 0 < whole_of (row_of_kind entry_rows kind)
     positive = rw (← w) (omega arith)
 
-    pub read-account : last_account < number_at bytes 5 2 → read_of bytes ≡ Nothing
+    pub read-account : last_account < number_at bytes 5 2 → read_of bytes ≡ None
     read-account a = by_kind bytes kind k ∙ elsewhere-row entry_reader (row_of_kind entry_rows kind) bytes positive (rw w at h) a
 
     pub read-fitting : number_at bytes 5 2 ≤ last_account
         → read_of bytes
-        ≡ cond (cond (eqb kind 20) true (event_fits (number_at bytes 11 1) (number_at bytes 12 4))) (Found (entry_at bytes kind) kind (number_at bytes 5 2) whole) Nothing
+        ≡ cond (cond (eqb kind 20) true (event_fits (number_at bytes 11 1) (number_at bytes 12 4))) (found_as (entry_at bytes kind) kind (number_at bytes 5 2) whole) None
     unfolding numbers_at
     read-fitting a =
         let found = row_of_kind entry_rows kind in
@@ -112,10 +112,10 @@ module _ (bytes : List ℕ) (kind whole : ℕ) (k : kind ≡ number_at bytes 0 1
 
 -- by the shape and the numbers that the code reads
 module _ {kind : ℕ} {shape : Shape} (bytes : List ℕ) (k : kind ≡ number_at bytes 0 1) (s : shape ≡ shape_of (row_of_kind entry_rows kind)) where
-  pub code-unknown : shape.whole ≡ 0 → read_of bytes ≡ Nothing
+  pub code-unknown : shape.whole ≡ 0 → read_of bytes ≡ None
   code-unknown z = by_kind bytes kind k ∙ shape-unknown entry_rows kind bytes s entry_reader every-length z
 
-  pub code-short : length bytes < shape.whole → read_of bytes ≡ Nothing
+  pub code-short : length bytes < shape.whole → read_of bytes ≡ None
   code-short h = by_kind bytes kind k ∙ shape-short entry_rows kind bytes s entry_reader h
 
   module _ (p : shape.whole ≡ 0 → ⊥) (h : shape.whole ≤ length bytes) {numbers : List ℕ} (n : numbers ≡ numbers_at (map bytes_in shape.widths) bytes 0) where
@@ -125,12 +125,12 @@ module _ {kind : ℕ} {shape : Shape} (bytes : List ℕ) (k : kind ≡ number_at
     pub code-reason : AreBytes bytes → get_or numbers 7 0 < 256
     code-reason b = rw (row_at entry_rows kind bytes s p rows-hold n 7) (reason-fits bytes kind positive-row b)
 
-    pub code-elsewhere : last_account < get_or numbers 2 0 → read_of bytes ≡ Nothing
+    pub code-elsewhere : last_account < get_or numbers 2 0 → read_of bytes ≡ None
     code-elsewhere a = by_kind bytes kind k ∙ shape-elsewhere entry_rows kind bytes s p rows-hold n entry_reader h a
 
     pub code-fitting : get_or numbers 2 0 ≤ last_account
         → read_of bytes
-        ≡ cond (eqb (get_or shape.widths 4 0) 0 || event_fits (get_or numbers 4 0) (get_or numbers 5 0)) (Found (entry_by kind numbers) kind (get_or numbers 2 0) shape.whole) Nothing
+        ≡ cond (eqb (get_or shape.widths 4 0) 0 || event_fits (get_or numbers 4 0) (get_or numbers 5 0)) (found_as (entry_by kind numbers) kind (get_or numbers 2 0) shape.whole) None
     unfolding numbers_at
     code-fitting a =
         let at = row_at entry_rows kind bytes s p rows-hold n in

@@ -1,17 +1,15 @@
 -- Entries stored one after the other are one run of stores, as long as their lengths together. By induction on the list of entries;
 -- one entry more is one step of the loops that count and store them.
 -- Assumes nothing.
-use Prim.Native.Nat.{ℕ, ◌+◌, ◌*◌, ◌≤◌, ◌<◌, min}
+use Prim.Native.Nat.{ℕ, ◌+◌, ◌*◌, ◌≤◌, ◌<◌}
 use native.Mathlib.Nat.{add_assoc, zero-add, add-zero, mul-suc}
 use native.Mathlib.Numerals.{add-one}
 use native.Mathlib.Omega.{arith}
 use mathlib.Core.Path.{◌≡◌, refl, sym, ◌∙◌}
-use mathlib.Core.Bool.{Bool, true, false}
 use mathlib.Core.List.{List, [], ◌∷◌, ◌++◌, map, append-nil, append_assoc}
-use borrow.Author.Tests.{leb-true, leb-false}
-use lib.Dec.{leb}
-use lib.ListN.{length, get_or, take, length-append}
-use lib.Seq.{sets, take-suc, take_all}
+use lib.ListN.{length, get_or, take, drop, length-append}
+use lib.Seq.{sets, take-suc}
+use Rattle.std.proofs.lemmas.List.{take-append-drop}
 use Rattle.events.specs.declared.Event.TheVariants.{Open}
 use Rattle.filing.specs.declared.Verdict.TheVariants.{Accepted}
 use Rattle.filing.specs.declared.Told.{Told}
@@ -65,7 +63,11 @@ unfolding wholes_of
 wholes-short [] = omega arith
 wholes-short (e ∷ es) = rw mul-suc (omega (arith, short-told e.told, wholes-short es))
 
--- what the code's arrays give past their end, where nothing looks
+-- the first of them are no longer than all
+wholes-front : (es : List Entry) (i : ℕ) → wholes_of (take i es) ≤ wholes_of es
+wholes-front es i = let split : wholes_of (take i es) + wholes_of (drop i es) ≡ wholes_of es = rw (← wholes-append, take-append-drop) in omega arith
+
+-- what the code's slices give past their end, where nothing looks
 abbrev pub no_entry : Entry
 no_entry = record { transaction = 0; filed = blank_filed; told = Voted (Open 0) (record { verdict = Accepted; weighed = 0; reason = 0 }) }
 
@@ -78,6 +80,10 @@ module _ (places : List Entry) (i : ℕ) (h : i < length places) where
   unfolding wholes_of
   wholes-more = rw (one_more, wholes-append, add-zero)
 
+  -- so they are no longer than all
+  pub wholes-next : wholes_of (take i places) + length_of_told (get_or places i no_entry).told ≤ wholes_of places
+  wholes-next = rw (← wholes-more) (wholes-front places (i + 1))
+
   entries-more : (account : ℕ) → bytes_of_entries account (take (i + 1) places) ≡ bytes_of_entries account (take i places) ++ bytes_of_entry account (get_or places i no_entry)
   unfolding bytes_of_entries
   entries-more account = rw (one_more, entries-append, append-nil)
@@ -88,16 +94,3 @@ module _ (places : List Entry) (i : ℕ) (h : i < length places) where
       rw (entries-more account)
       (sets_more (bytes_of_entries account (take i places)) (bytes_of_entry account (get_or places i no_entry)) l l₁ l₂ 0 at
       (length-entries account (take i places) ∙ sym a) e₁ (rw zero-add e₂))
-
--- a count above the number of places counts as all of them
-pub all-places : {A : Type 0} (places : List A) (count : ℕ) → length places ≡ 17 → take (min count 17) places ≡ take count places
-all-places {A} places count h = go (leb count 17) refl
-  where
-    go : (b : Bool) → leb count 17 ≡ b → take (min count 17) places ≡ take count places
-    go true e = let m : count ≤ 17 = leb-true count 17 e in let k : min count 17 ≡ count = omega arith in rw k
-    go false e =
-        let m : 17 < count = leb-false count 17 e in
-        let k : min count 17 ≡ 17 = omega arith in
-        let a : length places ≤ 17 = omega arith in
-        let b : length places ≤ count = omega arith in
-        rw (k, take_all 17 places a, take_all count places b)

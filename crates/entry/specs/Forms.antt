@@ -1,17 +1,15 @@
 -- Each answer of the entry reader with what is said of it, and what the writer of a call's entries leaves for any account and any numbers, literally (docs/REGISTER.md, 9 and 11.4).
 -- Assumes nothing.
-use Rattle.std.specs.Prelude.{ℕ, ◌≡◌, List, [], ◌∷◌, ◌++◌, map, length, take}
+use Rattle.std.specs.Prelude.{ℕ, ◌≡◌, List, [], ◌∷◌, ◌++◌, map, length, take, Some, None}
 use Rattle.std.proofs.Math.Option.{none, some}
 use Rattle.filing.specs.declared.Entry.{Entry}
-use Rattle.filing.specs.declared.Entries.{Entries}
-use Rattle.layout.specs.Answers as Writing'
-use Rattle.entry.specs.declared.EntryReading.TheVariants.{Found, Nothing}
+use Rattle.layout.specs.Writes as Writing'
 use Rattle.entry.specs.Bytes.{bytes_of_entry, bytes_of_entries}
 use Rattle.entry.specs.Answers.{said_of_entry, write_of}
 
 pub record EntryReadingForm : Type 0 where
-  pub found : (e : Entry) (kind account whole : ℕ) → said_of_entry (Found e kind account whole) ≡ record { entry = some e; kind = kind; account = account; length' = whole }
-  pub nothing : said_of_entry Nothing ≡ record { entry = none; kind = 0; account = 0; length' = 0 }
+  pub found : (e : Entry) (kind account whole : ℕ) → said_of_entry (Some (record { entry = e; kind = kind; account = account }, whole)) ≡ record { entry = some e; kind = kind; account = account; length' = whole }
+  pub nothing : said_of_entry None ≡ record { entry = none; kind = 0; account = 0; length' = 0 }
 
 -- strings of bytes, one after the other
 abbrev pub together : List (List ℕ) → List ℕ
@@ -25,8 +23,8 @@ EntriesTogether = (account : ℕ) (entries : List Entry) → bytes_of_entries ac
 -- a buffer that is written begins with these bytes, and the answer is how many they are
 abbrev pub WriterLeaves : Type 0
 WriterLeaves =
-    (entries : Entries) (account : ℕ) (buffer : List ℕ)
+    (entries : List Entry) (account : ℕ) (buffer : List ℕ)
     → (Writing'.said_of_writing (write_of entries account buffer).answer).refusal ≡ none
-    → let bytes = together (map (bytes_of_entry account) (take entries.count entries.at)) in
+    → let bytes = together (map (bytes_of_entry account) entries) in
     ((Writing'.said_of_writing (write_of entries account buffer).answer).length' ≡ length bytes)
     × (take (length bytes) (write_of entries account buffer).buffer ≡ bytes)

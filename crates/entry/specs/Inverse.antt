@@ -9,9 +9,8 @@ use Rattle.layout.specs.Number.{AreBytes}
 use Rattle.layout.specs.Fields.{row_of_kind, whole_of, last_account}
 use Rattle.layout.specs.Heading.{FiledFits}
 use Rattle.events.specs.Kinds.{amount_of}
-use Rattle.entry.specs.declared.EntryReading.TheVariants.{Found}
 use Rattle.entry.specs.Bytes.{entry_rows, kind_of, bytes_as, bytes_of_entry, length_of_told}
-use Rattle.entry.specs.Answers.{read_of}
+use Rattle.entry.specs.Answers.{found_as, read_of}
 
 -- the amount, the outcomes weighed, the balance and the reason of an entry, each 0 where it has none
 abbrev pub amount_in : Told → ℕ
@@ -64,13 +63,13 @@ pub record Writable (account : ℕ) (e : Entry) : Type 0 where
 abbrev pub ReadsWritten : Type 0
 ReadsWritten =
     (account : ℕ) (e : Entry) (rest : List ℕ) → Writable account e
-    → read_of (bytes_of_entry account e ++ rest) ≡ Found e (kind_of e.told) account (length_of_told e.told)
+    → read_of (bytes_of_entry account e ++ rest) ≡ found_as e (kind_of e.told) account (length_of_told e.told)
 
 -- and so it does in any kind in which the entry can stand
 abbrev pub ReadsStanding : Type 0
 ReadsStanding =
     (kind account : ℕ) (e : Entry) (rest : List ℕ) → Writable account e → StandsAs kind e.told
-    → read_of (bytes_as kind account e ++ rest) ≡ Found e kind account (whole_of (row_of_kind entry_rows kind))
+    → read_of (bytes_as kind account e ++ rest) ≡ found_as e kind account (whole_of (row_of_kind entry_rows kind))
 
 -- what was read: its bytes in the kind that was read are those that were read, its length is that kind's, it can be written, and it can stand in that kind
 pub record Read (bytes : List ℕ) (kind account : ℕ) (e : Entry) (whole : ℕ) : Type 0 where
@@ -82,10 +81,10 @@ pub record Read (bytes : List ℕ) (kind account : ℕ) (e : Entry) (whole : ℕ
 -- writing what was read gives the bytes back, for every byte string
 abbrev pub WritesRead : Type 0
 WritesRead =
-    (bytes : List ℕ) (kind account : ℕ) (e : Entry) (whole : ℕ) → AreBytes bytes → read_of bytes ≡ Found e kind account whole → Read bytes kind account e whole
+    (bytes : List ℕ) (kind account : ℕ) (e : Entry) (whole : ℕ) → AreBytes bytes → read_of bytes ≡ found_as e kind account whole → Read bytes kind account e whole
 
 -- what was read in the kind that is written is written as it stood
 abbrev pub WritesOwn : Type 0
 WritesOwn =
-    (bytes : List ℕ) (kind account : ℕ) (e : Entry) (whole : ℕ) → AreBytes bytes → read_of bytes ≡ Found e kind account whole → (kind ≡ 18 → ⊥)
+    (bytes : List ℕ) (kind account : ℕ) (e : Entry) (whole : ℕ) → AreBytes bytes → read_of bytes ≡ found_as e kind account whole → (kind ≡ 18 → ⊥)
     → (take whole bytes ≡ bytes_of_entry account e) × (whole ≡ length_of_told e.told)

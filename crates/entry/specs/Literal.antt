@@ -1,7 +1,7 @@
 -- The words in which entries are told, each said a second time in numbers and lists (docs/REGISTER.md, 9), and what the writer of a call's entries gives with each length of buffer: a word
 -- that stands in a statement cannot be changed with it.
 -- Assumes nothing.
-use Rattle.std.specs.Prelude.{ℕ, ◌+◌, ◌*◌, ◌/◌, ◌%◌, ◌≤◌, ◌<◌, ◌≡◌, ◌↔◌, ◌⊎◌, true, false, cond, List, [], ◌∷◌, ◌++◌, map, length, get_or, take, drop}
+use Rattle.std.specs.Prelude.{ℕ, ◌+◌, ◌*◌, ◌/◌, ◌%◌, ◌≤◌, ◌<◌, ◌≡◌, ◌↔◌, ◌⊎◌, true, false, cond, List, [], ◌∷◌, ◌++◌, map, length, get_or, take, drop, Some, Ok, Err}
 use Rattle.std.proofs.Math.Option.{none, some}
 use Rattle.events.specs.declared.Event.{Event}
 use Rattle.events.specs.declared.Event.TheVariants.{Open, Withdraw, Deposit, Close}
@@ -9,9 +9,9 @@ use Rattle.filing.specs.declared.Entry.{Entry}
 use Rattle.filing.specs.declared.Entries.{Entries}
 use Rattle.filing.specs.declared.Verdict.TheVariants.{Accepted, Rejected, Held}
 use Rattle.filing.specs.declared.Told.TheVariants.{Voted, Noted, Applied, Dropped}
-use Rattle.layout.specs.declared.Writing.TheVariants.{Written, Refused}
+use Rattle.refusal.specs.declared.Refusal.TheVariants.{NoRoom}
 use Rattle.entry.specs.Bytes.{kind_of, then_numbers, bytes_of_entry, bytes_of_entries, wholes_of, length_of_told, list_of}
-use Rattle.entry.specs.Answers.{longest_call, said_of_entry, read_of, write_of}
+use Rattle.entry.specs.Answers.{longest_call, said_of_entry, found_as, read_of, write_of}
 use Rattle.entry.specs.Inverse.{StandsAs, Writable}
 use Rattle.entry.specs.Longest.{is_applied, is_vote, is_rejection, rejections}
 use Rattle.entry.specs.Plain.{of_each_kind, event_bytes, kind_length, length_in, length_as, found, nothing, EventStands, Stands, AllWritable, lengths_in, AllRead}
@@ -98,20 +98,21 @@ pub record RowLiteral (account : ℕ) (e : Entry) (es : List Entry) (x : List �
 -- the answers of the reader, and the places that are used
 pub record AnswersLiteral (e : Entry) (kind account whole : ℕ) (entries : Entries) : Type 0 where
   pub found' : found e kind account whole ≡ record { entry = some e; kind = kind; account = account; length' = whole }
+  pub as' : found_as e kind account whole ≡ Some (record { entry = e; kind = kind; account = account }, whole)
   pub nothing' : nothing ≡ record { entry = none; kind = 0; account = 0; length' = 0 }
   pub used : list_of entries ≡ take entries.count entries.at
   pub longest : longest_call ≡ 323
 
--- the writer of a call's entries: 4 with fewer than 323 bytes, whatever the entries and the account are, and where the entries do not fit; else their bytes, how many they are, and the rest
+-- the writer of entries, of however many: no room with fewer than 323 bytes, whatever the entries and the account are, and where the entries do not fit; else their bytes, how many they are, and the rest
 -- of the buffer as it was
-pub record WriterLiteral (entries : Entries) (account : ℕ) (buffer : List ℕ) : Type 0 where
-  pub short : length buffer < 323 → write_of entries account buffer ≡ record { answer = Refused 4; buffer = buffer }
+pub record WriterLiteral (entries : List Entry) (account : ℕ) (buffer : List ℕ) : Type 0 where
+  pub short : length buffer < 323 → write_of entries account buffer ≡ record { answer = Err NoRoom; buffer = buffer }
   pub roomless :
-      let bytes = bytes_of_entries account (take entries.count entries.at) in
-      323 ≤ length buffer → length buffer < length bytes → write_of entries account buffer ≡ record { answer = Refused 4; buffer = buffer }
+      let bytes = bytes_of_entries account entries in
+      323 ≤ length buffer → length buffer < length bytes → write_of entries account buffer ≡ record { answer = Err NoRoom; buffer = buffer }
   pub written :
-      let bytes = bytes_of_entries account (take entries.count entries.at) in
-      323 ≤ length buffer → length bytes ≤ length buffer → write_of entries account buffer ≡ record { answer = Written (length bytes); buffer = bytes ++ drop (length bytes) buffer }
+      let bytes = bytes_of_entries account entries in
+      323 ≤ length buffer → length bytes ≤ length buffer → write_of entries account buffer ≡ record { answer = Ok (length bytes); buffer = bytes ++ drop (length bytes) buffer }
 
 pub record LiteralHolds : Type 0 where
   pub kinds : (e : Event) (n k : ℕ) → KindsLiteral e n k
@@ -121,4 +122,4 @@ pub record LiteralHolds : Type 0 where
   pub then' : (a n k : ℕ) → ThenLiteral a n k
   pub row : (account : ℕ) (e : Entry) (es : List Entry) (x : List ℕ) (xs : List (List ℕ)) (bytes : List ℕ) → RowLiteral account e es x xs bytes
   pub answers : (e : Entry) (kind account whole : ℕ) (entries : Entries) → AnswersLiteral e kind account whole entries
-  pub writer : (entries : Entries) (account : ℕ) (buffer : List ℕ) → WriterLiteral entries account buffer
+  pub writer : (entries : List Entry) (account : ℕ) (buffer : List ℕ) → WriterLiteral entries account buffer

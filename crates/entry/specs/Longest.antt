@@ -20,7 +20,7 @@ use Rattle.filing.specs.declared.Told.TheVariants.{Voted, Noted, Applied, Droppe
 use Rattle.filing.specs.declared.Entry.{Entry}
 use Rattle.filing.specs.Slots.{RuleSlot, places, blank_filed}
 use Rattle.filing.specs.Entries.{RuleEntry, entries_of}
-use Rattle.layout.specs.Answers.{said_of_writing}
+use Rattle.layout.specs.Writes.{said_of_writing}
 use Rattle.entry.specs.Bytes.{bytes_of_entries, wholes_of, list_of}
 use Rattle.entry.specs.Answers.{write_of}
 
@@ -83,7 +83,7 @@ pub record CallsFit : Type 0 where
 abbrev pub CallsRefused : Type 0
 CallsRefused =
     (xs : List RuleEntry) → CallFits xs → (account : ℕ) (buffer : List ℕ)
-    → (said_of_writing (write_of (entries_of xs) account buffer).answer).refusal ≡ first_of (test (ltb (length buffer) 323) 4 ∷ [])
+    → (said_of_writing (write_of (list_of (entries_of xs)) account buffer).answer).refusal ≡ first_of (test (ltb (length buffer) 323) 4 ∷ [])
 
 -- a deposit of 1 in a place; a withdrawal that is held, of more than there will be
 abbrev pub deposit : (transaction : ℕ) → rule.Decision → RuleSlot

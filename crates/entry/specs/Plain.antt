@@ -1,7 +1,7 @@
 -- Entries (docs/REGISTER.md, 9.1 and 9.6) field by field in plain numbers: what the reader finds in the bytes and what the writer of a call leaves in
 -- the buffer. The definitions of entries said a second time, from outside, for every byte string and every entry.
 -- Assumes nothing.
-use Rattle.std.specs.Prelude.{ℕ, ◌+◌, ◌%◌, ◌≤◌, ◌≡◌, ◌↔◌, ◌⊎◌, Bool, true, cond, not, ◌&&◌, ◌||◌, List, [], ◌∷◌, ◌++◌, map, eqb, leb, ltb, length, get_or, take, drop}
+use Rattle.std.specs.Prelude.{ℕ, ◌+◌, ◌%◌, ◌≤◌, ◌≡◌, ◌↔◌, ◌⊎◌, Bool, true, cond, not, ◌&&◌, ◌||◌, List, [], ◌∷◌, ◌++◌, map, eqb, leb, ltb, length, get_or, drop}
 use Rattle.std.proofs.Math.Option.{none, some}
 use Rattle.events.specs.declared.Event.{Event}
 use Rattle.events.specs.declared.Event.TheVariants.{Open, Withdraw, Deposit, Close}
@@ -11,11 +11,10 @@ use Rattle.filing.specs.declared.Verdict.TheVariants.{Accepted, Rejected, Held}
 use Rattle.filing.specs.declared.Told.{Told}
 use Rattle.filing.specs.declared.Told.TheVariants.{Voted, Noted, Applied, Dropped}
 use Rattle.filing.specs.declared.Entry.{Entry}
-use Rattle.filing.specs.declared.Entries.{Entries}
 use Rattle.layout.specs.Fields.{row_of_kind, whole_of}
 use Rattle.events.specs.Kinds.{amount_of}
 use Rattle.layout.specs.Plain.{two_at, four_at, two_of, four_of, filed_in, heading_bytes}
-use Rattle.layout.specs.Answers as Writing'
+use Rattle.layout.specs.Writes as Writing'
 use Rattle.entry.specs.Bytes.{entry_rows, kind_of, bytes_as, bytes_of_entry, length_of_told}
 use Rattle.entry.specs.Answers.{SaidOfEntry, said_of_entry, read_of, write_of}
 use Rattle.entry.specs.Inverse.{amount_in, weighed_in, balance_in, reason_in, Writable}
@@ -155,6 +154,6 @@ pub record Leaves (entries : List Entry) (account : ℕ) (w : Writing'.Wrote) : 
 
 abbrev pub WriterReadBack : Type 0
 WriterReadBack =
-    (entries : Entries) (account : ℕ) (buffer : List ℕ) → AllWritable account (take entries.count entries.at) → 323 ≤ length buffer
-    → lengths_in (take entries.count entries.at) ≤ length buffer
-    → Leaves (take entries.count entries.at) account (write_of entries account buffer)
+    (entries : List Entry) (account : ℕ) (buffer : List ℕ) → AllWritable account entries → 323 ≤ length buffer
+    → lengths_in entries ≤ length buffer
+    → Leaves entries account (write_of entries account buffer)

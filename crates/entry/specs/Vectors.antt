@@ -10,8 +10,8 @@ use Rattle.filing.specs.declared.Told.{Told}
 use Rattle.filing.specs.declared.Told.TheVariants.{Noted, Applied, Dropped}
 use Rattle.filing.specs.declared.Entry.{Entry}
 use Rattle.filing.specs.declared.Entries.{Entries}
-use Rattle.layout.specs.Answers as Writing'
-use Rattle.entry.specs.Bytes.{bytes_as, bytes_of_entry}
+use Rattle.layout.specs.Writes as Writing'
+use Rattle.entry.specs.Bytes.{bytes_as, bytes_of_entry, list_of}
 use Rattle.entry.specs.Answers.{SaidOfEntry, said_of_entry, read_of, write_of}
 use Rattle.entry.specs.Plain.{vote}
 
@@ -164,7 +164,7 @@ pub record VectorsHold : Type 0 where
   pub older : map found_older older_table ≡ map said older_table
   pub nothing : map (λ (bytes : List ℕ). said_of_entry (read_of bytes)) unreads ≡ replicate 20 (record { entry = none; kind = 0; account = 0; length' = 0 })
   -- written into 323 bytes, of which 11 + 20 + 19 are used, and refused by 322
-  pub answer : Writing'.said_of_writing (write_of call 8 (replicate 323 0xaa)).answer ≡ record { refusal = none; length' = 50 }
-  pub left : (write_of call 8 (replicate 323 0xaa)).buffer ≡ call_bytes ++ replicate 273 0xaa
-  pub short : Writing'.said_of_writing (write_of call 8 (replicate 322 0xaa)).answer ≡ record { refusal = some 4; length' = 0 }
-  pub short_left : (write_of call 8 (replicate 322 0xaa)).buffer ≡ replicate 322 0xaa
+  pub answer : Writing'.said_of_writing (write_of (list_of call) 8 (replicate 323 0xaa)).answer ≡ record { refusal = none; length' = 50 }
+  pub left : (write_of (list_of call) 8 (replicate 323 0xaa)).buffer ≡ call_bytes ++ replicate 273 0xaa
+  pub short : Writing'.said_of_writing (write_of (list_of call) 8 (replicate 322 0xaa)).answer ≡ record { refusal = some 4; length' = 0 }
+  pub short_left : (write_of (list_of call) 8 (replicate 322 0xaa)).buffer ≡ replicate 322 0xaa

@@ -1,4 +1,4 @@
-// The entries of a call in bytes, and the reader of one entry.
+// Entries in bytes: the writer of a call's entries, and the reader of one.
 #![tactic(auto)]
 
 mod kinds;
@@ -7,14 +7,15 @@ mod writer;
 
 use filing::Entry;
 pub use reader::read_entry;
-pub use writer::{write_entries, write_entry};
+pub use writer::write_entries;
 
 // The room that a call needs: a commit noted, 8 events applied and 8 rejections.
 pub const LONGEST_CALL: usize = 323;
 
-// What the reader answers: the entry, the kind that it was read in, its account and its length, or that the bytes do not begin with an entry.
+// An entry as it was read, with the kind that it was read in and its account.
 #[derive(Clone, Copy, Drop)]
-pub enum EntryReading {
-    Found(Entry, u8, u16, usize),
-    Nothing,
+pub struct Found {
+    pub entry: Entry,
+    pub kind: u8,
+    pub account: u16,
 }

@@ -2,48 +2,34 @@
 ghost use Rattle.std.specs.Prelude.{◌<◌, ◌≡◌, get_or};
 ghost use Rattle.events.specs.Kinds.{event_of};
 ghost use Rattle.entry.specs.Bytes.{entry_by};
-ghost use Rattle.entry.specs.Answers.{event_fits, found_if, read_of};
+ghost use Rattle.entry.specs.Answers.{event_fits, read_of};
 
-use crate::{EntryReading, kinds};
+use crate::{Found, kinds};
 use events::Event;
 use filing::Entry;
 
-// The entry that the bytes begin with, by the layout alone; bytes after it are not looked at.
-pub fn read_entry(bytes: &[u8]) -> EntryReading
+// The entry that the bytes begin with, by the layout alone, and its length; bytes after it are not looked at.
+pub fn read_entry(bytes: &[u8]) -> Option<(Found, usize)>
     ensures { result ≡ read_of bytes.now }
 {
     let kind = layout::number1(bytes, 0);
     let shape = kinds::shape_of(kind);
-    if shape.whole == 0 {
-        return EntryReading::Nothing;
+    if shape.whole == 0 || bytes.len() < shape.whole {
+        return None;
     }
-    if bytes.len() < shape.whole {
-        return EntryReading::Nothing;
-    }
-    let widths = shape.widths;
-    let numbers = layout::read_numbers(bytes, widths);
+    let numbers = layout::read_numbers(bytes, shape.widths);
     if numbers[2] > layout::LAST_ACCOUNT as u32 {
-        return EntryReading::Nothing;
+        return None;
     }
-    let fits = (widths[4] == 0) | event_fits(numbers[4], numbers[5]);
-    found_if(
-        fits,
-        entry_of(kind, numbers),
-        kind,
-        numbers[2] as u16,
+    let fits = shape.widths[4] == 0 || event_fits(numbers[4], numbers[5]);
+    fits.then_some((
+        Found {
+            entry: entry_of(kind, numbers),
+            kind,
+            account: numbers[2] as u16,
+        },
         shape.whole,
-    )
-}
-
-// The entry is found if it fits.
-fn found_if(fits: bool, entry: Entry, kind: u8, account: u16, whole: usize) -> EntryReading
-    ensures { result ≡ found_if fits entry kind account whole }
-{
-    if fits {
-        EntryReading::Found(entry, kind, account, whole)
-    } else {
-        EntryReading::Nothing
-    }
+    ))
 }
 
 // Whether there is an event of that kind with that amount.

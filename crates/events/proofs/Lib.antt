@@ -6,6 +6,5 @@ pub mod Newest
 pub mod Answers
 pub mod Table
 pub mod Panel
-pub mod Perhaps
 pub mod Plain
 pub mod Literal

@@ -34,6 +34,8 @@ literal-holds =
             reason_bytes = refl;
             reason_none = refl;
             reason_some = λ h. rw (ne_eqb a 0 h) refl;
+            reasons = refl;
+            reason_numbers = refl;
           };
       one = λ b. record { new = refl; opened = refl; closed = refl; new_list = refl; opened_list = rw (max-zero b) refl; closed_list = refl; none = refl };
       row =

@@ -15,18 +15,13 @@ use Rattle.events.specs.declared.Life.{Life}
 use Rattle.events.specs.declared.Life.TheVariants.{New, Opened, Closed}
 use Rattle.events.specs.declared.State.{State}
 use Rattle.events.specs.declared.Range.{Range}
+use Rattle.events.specs.declared.condition.Bound.{Bound}
+use Rattle.events.specs.declared.condition.Bound.TheVariants.{AtLeast, AtMost}
 use Rattle.events.specs.declared.condition.Condition.{Condition}
 use Rattle.events.specs.Events.{is_new, is_opened, is_closed}
-use Rattle.events.specs.Condition.{chosen, takes}
-use Rattle.events.specs.Range.{opened_balances, lowest_of, range_of, range_of_one, joined}
+use Rattle.events.specs.Condition.{within, takes}
+use Rattle.events.specs.Range.{opened_balances, lowest_of, range_of, range_of_one, joined, alone, occurs}
 use Rattle.events.proofs.Guards.{alike, Plain}
-
--- no life but this one occurs in a range; this one does
-abbrev pub alone : Life → Range → Bool
-alone l x = chosen l (not (x.opened || x.closed)) (not (x.new || x.closed)) (not (x.new || x.opened))
-
-abbrev pub occurs : Life → Range → Bool
-occurs l x = chosen l x.new x.opened x.closed
 
 -- a condition in every state of a range, and in some
 abbrev pub all_of : Condition → Range → Bool
@@ -99,18 +94,18 @@ min-leb b m n = alike (leb (min m n) b) (leb m b || leb n b) there (λ h. back (
     back (inr h) = let p = leb-true n b h in le-leb (min m n) b (omega arith)
 
 takes-both : (c : Condition) (l h m k : ℕ) → takes c (min l m) (max h k) ≡ (takes c l h && takes c m k)
-takes-both c l h m k = go c.upward
+takes-both c l h m k = go c.bound
   where
-    go : (up : Bool) → cond up (leb c.bound (min l m)) (leb (max h k) c.bound) ≡ (cond up (leb c.bound l) (leb h c.bound) && cond up (leb c.bound m) (leb k c.bound))
-    go true = leb-min c.bound l m
-    go false = max-leb c.bound h k
+    go : (b : Bound) → within b (min l m) (max h k) ≡ (within b l h && within b m k)
+    go (AtLeast b) = leb-min b l m
+    go (AtMost b) = max-leb b h k
 
 takes_one : (c : Condition) (l h m k : ℕ) → takes c (max h k) (min l m) ≡ (takes c h l || takes c k m)
-takes_one c l h m k = go c.upward
+takes_one c l h m k = go c.bound
   where
-    go : (up : Bool) → cond up (leb c.bound (max h k)) (leb (min l m) c.bound) ≡ (cond up (leb c.bound h) (leb l c.bound) || cond up (leb c.bound k) (leb m c.bound))
-    go true = leb-max c.bound h k
-    go false = min-leb c.bound l m
+    go : (b : Bound) → within b (max h k) (min l m) ≡ (within b h l || within b k m)
+    go (AtLeast b) = leb-max b h k
+    go (AtMost b) = min-leb b l m
 
 -- a condition in every state of two ranges, and in some
 alone-joined : (l : Life) (x y : Range) → alone l (joined x y) ≡ (alone l x && alone l y)

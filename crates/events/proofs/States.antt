@@ -19,10 +19,10 @@ use Rattle.events.specs.declared.Range.{Range}
 use Rattle.events.specs.declared.condition.Condition.{Condition}
 use Rattle.events.specs.Events.{limit, is_opened, guard_of, table_effect, effect_of}
 use Rattle.events.specs.Condition.{condition_of, chosen, takes, holds}
-use Rattle.events.specs.Range.{range_of, range_of_one, joined, every_in, some_in, range_after, range_perhaps}
+use Rattle.events.specs.Range.{range_of, range_of_one, joined, every_in, some_in, range_after, range_perhaps, alone}
 use Rattle.events.proofs.Against.{table_guard, guard-table}
 use Rattle.events.proofs.Guards.{and-true, opened-life, guard-holds, Plain, plain, effect-table}
-use Rattle.events.proofs.Ranges.{alone, all_of, any_of, Formed, Some, opened-alone, all-joined, any-joined, one-formed, one-some, joined-formed, some-joined, range_cons}
+use Rattle.events.proofs.Ranges.{all_of, any_of, Formed, Some, opened-alone, all-joined, any-joined, one-formed, one-some, joined-formed, some-joined, range_cons}
 
 pub formed : (ss : List State) → Formed (range_of ss)
 unfolding range_of

@@ -1,11 +1,13 @@
 -- The guards as rows (3.1): what each event asks of a state, in a form that is the same for all of them. Contracts of the code's helpers; `guard-holds` ties the rows to the table.
 -- Assumes nothing.
-use Rattle.std.specs.Prelude.{ℕ, ◌-◌, Bool, true, false, cond, ◌&&◌, leb}
+use Rattle.std.specs.Prelude.{ℕ, ◌-◌, Bool, true, ◌&&◌, leb}
 use Rattle.events.specs.declared.Event.{Event}
 use Rattle.events.specs.declared.Event.TheVariants.{Open, Withdraw, Deposit, Close}
 use Rattle.events.specs.declared.Life.{Life}
 use Rattle.events.specs.declared.Life.TheVariants.{New, Opened, Closed}
 use Rattle.events.specs.declared.State.{State}
+use Rattle.events.specs.declared.condition.Bound.{Bound}
+use Rattle.events.specs.declared.condition.Bound.TheVariants.{AtLeast, AtMost}
 use Rattle.events.specs.declared.condition.Condition.{Condition}
 use Rattle.events.specs.Events.{limit, is_new, is_opened, is_closed}
 
@@ -15,10 +17,10 @@ most = 4_294_967_295
 
 -- what each event asks: whether its amount is possible, the life, and a balance of at least the bound, or of at most
 abbrev pub condition_of : Event → Condition
-condition_of (Open a) = record { possible = leb a limit; life = New; upward = true; bound = 0 }
-condition_of (Withdraw a) = record { possible = leb 1 a; life = Opened; upward = true; bound = a }
-condition_of (Deposit a) = record { possible = leb 1 a && leb a limit; life = Opened; upward = false; bound = limit - a }
-condition_of Close = record { possible = true; life = Opened; upward = true; bound = 0 }
+condition_of (Open a) = record { possible = leb a limit; life = New; bound = AtLeast 0 }
+condition_of (Withdraw a) = record { possible = leb 1 a; life = Opened; bound = AtLeast a }
+condition_of (Deposit a) = record { possible = leb 1 a && leb a limit; life = Opened; bound = AtMost (limit - a) }
+condition_of Close = record { possible = true; life = Opened; bound = AtLeast 0 }
 
 -- the one of three that is this life's
 abbrev pub chosen : Life → (new opened closed : Bool) → Bool
@@ -30,9 +32,14 @@ chosen Closed new opened closed = closed
 abbrev pub asks : Condition → (new opened closed : Bool) → Bool
 asks c new opened closed = chosen c.life new opened closed && c.possible
 
--- every balance from the lowest to the highest is as it asks; with the two exchanged, one of them is
+-- every balance from the lowest to the highest is within the bound,
+abbrev pub within : Bound → (lowest highest : ℕ) → Bool
+within (AtLeast bound) lowest highest = leb bound lowest
+within (AtMost bound) lowest highest = leb highest bound
+
+-- and so as it asks; with the two exchanged, one of them is
 abbrev pub takes : Condition → (lowest highest : ℕ) → Bool
-takes c lowest highest = cond c.upward (leb c.bound lowest) (leb highest c.bound)
+takes c lowest highest = within c.bound lowest highest
 
 abbrev pub holds : Condition → State → Bool
 holds c s = asks c (is_new s.life) (is_opened s.life) (is_closed s.life) && takes c s.balance s.balance

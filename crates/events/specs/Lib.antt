@@ -1,4 +1,5 @@
 pub mod Events
+pub mod Reasons
 pub mod Kinds
 pub mod Panel
 pub mod Table

@@ -5,11 +5,12 @@ use Rattle.rule.specs.Lists.{some_of, keep}
 use Rattle.rule.specs.Rule.{Slot, slot, undecided, committed}
 use Rattle.events.specs.declared.Event.{Event}
 use Rattle.events.specs.declared.Event.TheVariants.{Open, Withdraw, Deposit, Close}
+use Rattle.events.specs.declared.Life.{Life}
 use Rattle.events.specs.declared.Life.TheVariants.{Opened}
 use Rattle.events.specs.declared.State.{State}
 use Rattle.events.specs.declared.Range.{Range}
 use Rattle.events.specs.Events.{is_new, is_opened, is_closed, table_effect}
-use Rattle.events.specs.Condition.{most, condition_of, asks, takes}
+use Rattle.events.specs.Condition.{most, condition_of, chosen, asks, takes}
 
 -- the lowest of some numbers, and the highest; of none it is 0
 abbrev pub lowest_of : List ℕ → ℕ
@@ -56,6 +57,13 @@ joined x y =
       opened = x.opened || y.opened;
       closed = x.closed || y.closed;
     }
+
+-- no life but this one occurs in a range; this one does
+abbrev pub alone : Life → Range → Bool
+alone l x = chosen l (not (x.opened || x.closed)) (not (x.new || x.closed)) (not (x.new || x.opened))
+
+abbrev pub occurs : Life → Range → Bool
+occurs l x = chosen l x.new x.opened x.closed
 
 -- whether the event's guard holds in all of them: no other life occurs,
 abbrev pub every_in : Event → Range → Bool

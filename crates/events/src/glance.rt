@@ -1,25 +1,45 @@
 // What weighing knows of the outcomes: the range of one, of those after an event, and of two lots together; and what it tells of an event's guard in all of them.
-ghost use Rattle.std.specs.Prelude.{◌≡◌, cond, min, max};
-ghost use Rattle.events.specs.declared.Life.TheVariants.{Opened};
-ghost use Rattle.events.specs.Range.{range_of_one, stored_after, stored_perhaps, every_in, some_in};
+ghost use Rattle.std.specs.Prelude.{◌≡◌};
+ghost use Rattle.events.specs.Range.{range_of_one, alone, occurs, stored_after, stored_perhaps, every_in, some_in};
 
 use crate::condition::Condition;
-use crate::{Event, Life, Range, State, less, more};
+use crate::{Event, Life, Range, State, more};
 
 impl Range {
     // The range of one outcome.
     pub fn of(state: State) -> Range
         ensures { result ≡ range_of_one state }
     {
-        let life = state.life;
-        let opened = life.is_opened();
-        let balance = if_opened(opened, state.balance);
+        let opened = state.life.is_opened();
+        let balance = if opened { state.balance } else { 0 };
         Range {
             lowest: balance,
             highest: balance,
-            new: life.is_new(),
+            new: state.life.is_new(),
             opened,
-            closed: life.is_closed(),
+            closed: state.life.is_closed(),
+        }
+    }
+
+    // Whether this life occurs.
+    fn has(self, life: Life) -> bool
+        ensures { result ≡ occurs life self }
+    {
+        match life {
+            Life::New => self.new,
+            Life::Opened => self.opened,
+            Life::Closed => self.closed,
+        }
+    }
+
+    // Whether no life occurs but this one.
+    fn has_only(self, life: Life) -> bool
+        ensures { result ≡ alone life self }
+    {
+        match life {
+            Life::New => !(self.opened | self.closed),
+            Life::Opened => !(self.new | self.closed),
+            Life::Closed => !(self.new | self.opened),
         }
     }
 
@@ -27,35 +47,32 @@ impl Range {
     pub fn every(self, event: Event) -> bool
         ensures { result ≡ every_in event self }
     {
-        let condition = Condition::of(event);
-        let new = !(self.opened | self.closed);
-        let opened = !(self.new | self.closed);
-        let closed = !(self.new | self.opened);
-        condition.asks(new, opened, closed) & condition.takes(self.lowest, self.highest)
+        let asked = Condition::of(event);
+        self.has_only(asked.life) & asked.possible & asked.takes(self.lowest, self.highest)
     }
 
     // Whether the guard holds in some outcome: the life that it asks occurs, and it takes one of the balances.
     pub fn some(self, event: Event) -> bool
         ensures { result ≡ some_in event self }
     {
-        let condition = Condition::of(event);
-        condition.asks(self.new, self.opened, self.closed)
-            & condition.takes(self.highest, self.lowest)
+        let asked = Condition::of(event);
+        self.has(asked.life) & asked.possible & asked.takes(self.highest, self.lowest)
     }
 
     // The range after an event that is applied in every outcome: where its guard holds in every one, that of the outcomes that follow.
     pub fn after(self, event: Event) -> Range
         ensures { result ≡ stored_after event self }
     {
-        let low = event.applied(opened(self.lowest));
-        let high = event.applied(opened(self.highest));
-        let life = low.life;
+        let moved = |balance: u32| event.applied(State {
+            life: Life::Opened,
+            balance,
+        });
+        let low = moved(self.lowest);
+        let high = moved(self.highest);
         Range {
             lowest: low.balance,
             highest: high.balance,
-            new: life.is_new(),
-            opened: life.is_opened(),
-            closed: life.is_closed(),
+            ..Range::of(low)
         }
     }
 
@@ -63,75 +80,37 @@ impl Range {
     pub fn perhaps(self, event: Event) -> Range
         ensures { result ≡ stored_perhaps event self }
     {
-        let counts = self.opened;
-        let lowest = self.lowest;
         match event {
             Event::Open(amount) => Range {
-                lowest: either(counts, lower(lowest, amount), amount),
-                highest: higher(self.highest, amount),
-                new: self.new,
+                lowest: if self.opened {
+                    self.lowest.min(amount)
+                } else {
+                    amount
+                },
+                highest: self.highest.max(amount),
                 opened: true,
-                closed: self.closed,
+                ..self
             },
             Event::Withdraw(amount) => Range {
-                lowest: less(lowest, amount),
-                highest: self.highest,
-                new: self.new,
+                lowest: self.lowest.saturating_sub(amount),
                 opened: true,
-                closed: self.closed,
+                ..self
             },
             Event::Deposit(amount) => Range {
-                lowest: either(counts, lowest, more(lowest, amount)),
+                lowest: if self.opened {
+                    self.lowest
+                } else {
+                    more(self.lowest, amount)
+                },
                 highest: more(self.highest, amount),
-                new: self.new,
                 opened: true,
-                closed: self.closed,
+                ..self
             },
             Event::Close => Range {
-                lowest: if_opened(counts, lowest),
-                highest: self.highest,
-                new: self.new,
-                opened: counts,
+                lowest: if self.opened { self.lowest } else { 0 },
                 closed: true,
+                ..self
             },
         }
     }
-}
-
-// An opened account with this balance.
-fn opened(balance: u32) -> State
-    ensures { result ≡ record { life = Opened; balance = balance } }
-{
-    State {
-        life: Life::Opened,
-        balance,
-    }
-}
-
-// A balance that counts where the account is opened.
-fn if_opened(opened: bool, balance: u32) -> u32
-    ensures { result ≡ cond opened balance 0 }
-{
-    if opened { balance } else { 0 }
-}
-
-// The one balance where it counts, else the other.
-fn either(counts: bool, one: u32, other: u32) -> u32
-    ensures { result ≡ cond counts one other }
-{
-    if counts { one } else { other }
-}
-
-// The lower of two.
-fn lower(one: u32, other: u32) -> u32
-    ensures { result ≡ min one other }
-{
-    if one <= other { one } else { other }
-}
-
-// The higher of two.
-fn higher(one: u32, other: u32) -> u32
-    ensures { result ≡ max one other }
-{
-    if one <= other { other } else { one }
 }

@@ -11,10 +11,10 @@ ghost use Rattle.events.specs.Kinds.{event_kind, amount_of, event_of};
 ghost use Rattle.events.specs.Condition.{most};
 ghost use Rattle.events.specs.Range.{stored_effect};
 
-use condition::Condition;
+pub use reasons::Reason;
 
 // An event, with its amount of adjustment steps.
-#[derive(Clone, Copy, Drop)]
+#[derive(Clone, Copy, PartialEq, Eq, Drop)]
 pub enum Event {
     Open(u32),
     Withdraw(u32),
@@ -22,7 +22,7 @@ pub enum Event {
     Close,
 }
 
-#[derive(Clone, Copy, Drop)]
+#[derive(Clone, Copy, PartialEq, Eq, Drop)]
 pub enum Life {
     New,
     Opened,
@@ -30,7 +30,7 @@ pub enum Life {
 }
 
 // The applied state of an account.
-#[derive(Clone, Copy, Drop)]
+#[derive(Clone, Copy, PartialEq, Eq, Drop)]
 pub struct State {
     pub life: Life,
     pub balance: u32,
@@ -60,8 +60,7 @@ impl State {
     pub fn fits(self) -> bool
         ensures { result ≡ state_fits self }
     {
-        let life = self.life;
-        (self.balance <= State::LIMIT) & (life.is_opened() | (self.balance == 0))
+        (self.balance <= State::LIMIT) & (self.life.is_opened() | (self.balance == 0))
     }
 }
 
@@ -70,13 +69,15 @@ impl Event {
     pub const BLANK: Event = Event::Open(0);
 
     // Whether the event may be applied in this state: nothing is against it.
+    #[tactic(auto, unfolding(crate::specs::Events::guard_of))]
     pub fn guard(self, state: State) -> bool
         ensures { result ≡ guard_of self state }
     {
-        self.reason(state) == 0
+        self.reason(state).is_none()
     }
 
     // The state after the event; the same state where its guard fails.
+    #[tactic(auto, unfolding(crate::specs::Events::effect_of))]
     pub fn effect(self, state: State) -> State
         ensures { result ≡ effect_of self state }
     {
@@ -91,19 +92,18 @@ impl Event {
     pub(crate) fn applied(self, state: State) -> State
         ensures { result ≡ stored_effect self state }
     {
-        let life = state.life;
         match self {
             Event::Open(amount) => State {
                 life: Life::Opened,
                 balance: amount,
             },
             Event::Withdraw(amount) => State {
-                life,
-                balance: less(state.balance, amount),
+                balance: state.balance.saturating_sub(amount),
+                ..state
             },
             Event::Deposit(amount) => State {
-                life,
                 balance: more(state.balance, amount),
+                ..state
             },
             Event::Close => State {
                 life: Life::Closed,
@@ -129,14 +129,13 @@ impl Event {
         ensures { result ≡ amount_of self }
     {
         match self {
-            Event::Open(amount) => amount,
-            Event::Withdraw(amount) => amount,
-            Event::Deposit(amount) => amount,
+            Event::Open(amount) | Event::Withdraw(amount) | Event::Deposit(amount) => amount,
             Event::Close => 0,
         }
     }
 
     // The event of a kind and an amount; a kind that is none of 1 to 3 counts as 4.
+    #[tactic(auto, unfolding(crate::specs::Kinds::event_of))]
     pub fn of(kind: u8, amount: u32) -> Event
         ensures { result ≡ event_of kind amount }
     {
@@ -152,12 +151,7 @@ impl Event {
     pub fn is_blank(self) -> bool
         ensures { result ≡ is_blank_event self }
     {
-        match self {
-            Event::Open(amount) => amount == 0,
-            Event::Withdraw(_) => false,
-            Event::Deposit(_) => false,
-            Event::Close => false,
-        }
+        self == Event::BLANK
     }
 }
 
@@ -166,44 +160,21 @@ impl Life {
     pub fn is_new(self) -> bool
         ensures { result ≡ is_new self }
     {
-        match self {
-            Life::New => true,
-            Life::Opened => false,
-            Life::Closed => false,
-        }
+        matches!(self, Life::New)
     }
 
     // Whether the account is opened.
     pub fn is_opened(self) -> bool
         ensures { result ≡ is_opened self }
     {
-        match self {
-            Life::New => false,
-            Life::Opened => true,
-            Life::Closed => false,
-        }
+        matches!(self, Life::Opened)
     }
 
     // Whether the account is closed.
     pub fn is_closed(self) -> bool
         ensures { result ≡ is_closed self }
     {
-        match self {
-            Life::New => false,
-            Life::Opened => false,
-            Life::Closed => true,
-        }
-    }
-}
-
-// The balance less an amount; 0 where the amount is more.
-pub(crate) fn less(balance: u32, amount: u32) -> u32
-    ensures { result ≡ balance - amount }
-{
-    if amount <= balance {
-        balance - amount
-    } else {
-        0
+        matches!(self, Life::Closed)
     }
 }
 
@@ -211,9 +182,5 @@ pub(crate) fn less(balance: u32, amount: u32) -> u32
 pub(crate) fn more(balance: u32, amount: u32) -> u32
     ensures { result ≡ cond (leb (balance + amount) most) (balance + amount) balance }
 {
-    if balance <= Condition::MOST - amount {
-        balance + amount
-    } else {
-        balance
-    }
+    balance.checked_add(amount).unwrap_or(balance)
 }

@@ -1,50 +1,56 @@
 // The reasons against an event in a state (docs/REGISTER.md, 3.4).
-ghost use Rattle.std.specs.Prelude.{◌≡◌, [], ◌∷◌};
-ghost use Rattle.rule.specs.Tests.{test, first_of};
+ghost use Rattle.std.specs.Prelude.{◌≡◌};
 ghost use Rattle.events.specs.Events.{reason_of, reason_byte};
+ghost use Rattle.events.specs.Reasons.{number_of, numbers_of};
 
-use crate::condition::under_limit;
-use crate::{Event, State};
+use crate::{Event, Life, State};
 
-impl Event {
-    // The reason against the event in this state, by its number; 0 where there is none.
-    pub fn reason(self, state: State) -> u8
-        ensures { result ≡ reason_byte (reason_of self state) }
+// Why an event may not be applied in a state, with its number in entries; the first that applies counts.
+#[derive(Clone, Copy, PartialEq, Eq, Drop)]
+pub enum Reason {
+    WrongLife = 1,
+    ZeroAmount = 2,
+    TooFew = 3,
+    OverLimit = 4,
+}
+
+impl Reason {
+    // The number of the reason in entries.
+    pub fn number(self) -> u8
+        ensures { result ≡ number_of self }
     {
-        let life = state.life;
-        let balance = state.balance;
-        match self {
-            Event::Open(amount) => first(!life.is_new(), false, false, State::LIMIT < amount),
-            Event::Withdraw(amount) => first(
-                !life.is_opened(),
-                amount == 0,
-                balance < amount,
-                false,
-            ),
-            Event::Deposit(amount) => first(
-                !life.is_opened(),
-                amount == 0,
-                false,
-                (State::LIMIT < amount) | (under_limit(amount) < balance),
-            ),
-            Event::Close => first(!life.is_opened(), false, false, false),
-        }
+        self as u8
     }
 }
 
-// The first that applies of the wrong life, an amount of zero, too few steps and over the limit, by its number; 0 where none does.
-fn first(life: bool, zero: bool, few: bool, over: bool) -> u8
-    ensures { result ≡ reason_byte (first_of (test life 1 ∷ test zero 2 ∷ test few 3 ∷ test over 4 ∷ [])) }
-{
-    if life {
-        1
-    } else if zero {
-        2
-    } else if few {
-        3
-    } else if over {
-        4
-    } else {
-        0
+impl Event {
+    // The reason against the event in this state, if there is one.
+    #[tactic(auto, unfolding(crate::specs::Events::reason_of))]
+    pub fn reason(self, state: State) -> Option<Reason>
+        ensures { numbers_of result ≡ reason_of self state }
+    {
+        let asked = match self {
+            Event::Open(_) => Life::New,
+            Event::Withdraw(_) | Event::Deposit(_) | Event::Close => Life::Opened,
+        };
+        if state.life != asked {
+            return Some(Reason::WrongLife);
+        }
+        match self {
+            Event::Withdraw(0) | Event::Deposit(0) => Some(Reason::ZeroAmount),
+            Event::Withdraw(amount) if state.balance < amount => Some(Reason::TooFew),
+            Event::Open(amount) if State::LIMIT < amount => Some(Reason::OverLimit),
+            Event::Deposit(amount) if State::LIMIT < state.balance.saturating_add(amount) => {
+                Some(Reason::OverLimit)
+            }
+            _ => None,
+        }
+    }
+
+    // The reason by its number; 0 where there is none.
+    pub fn reason_byte(self, state: State) -> u8
+        ensures { result ≡ reason_byte (reason_of self state) }
+    {
+        self.reason(state).map_or(0, Reason::number)
     }
 }

@@ -1,6 +1,6 @@
 -- An entry as a value, and the rule's entry; the entries of one call (docs/REGISTER.md, 9).
 -- Assumes nothing.
-use Rattle.std.specs.Prelude.{ℕ, ◌+◌, ◌-◌, Bool, true, false, List, ◌∷◌, ◌++◌, map, length, replicate}
+use Rattle.std.specs.Prelude.{ℕ, ◌+◌, ◌-◌, Bool, true, false, cond, List, ◌∷◌, ◌++◌, map, length, replicate, set, ltb}
 use Rattle.rule.specs.Rule as rule
 use Rattle.events.specs.declared.Event.{Event}
 use Rattle.events.specs.Events.{reason_byte, reason_from}
@@ -63,3 +63,7 @@ entries_of xs = record { at = map entry_of xs ++ replicate (most - length xs) bl
 
 abbrev pub only_entry : Entry → Entries
 only_entry x = record { at = x ∷ replicate (most - 1) blank_entry; count = 1 }
+
+-- one entry more, the newest; where no place is left there is none
+abbrev pub pushed : Entries → Entry → Entries
+pushed xs x = cond (ltb xs.count most) (record { at = set xs.at xs.count x; count = xs.count + 1 }) xs

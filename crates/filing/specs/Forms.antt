@@ -1,6 +1,6 @@
 -- The forms in which a place and the entries of a call are kept, literally, and that nothing is lost between the rule's form and these (docs/REGISTER.md, 2 and 9).
 -- Assumes nothing.
-use Rattle.std.specs.Prelude.{ℕ, ◌-◌, ◌≤◌, ◌≡◌, ◌↔◌, true, false, List, [], ◌∷◌, map, length, take, drop, replicate}
+use Rattle.std.specs.Prelude.{ℕ, ◌-◌, ◌<◌, ◌≤◌, ◌≡◌, ◌↔◌, true, false, List, [], ◌∷◌, ◌++◌, map, length, take, drop, replicate}
 use Rattle.std.proofs.Math.Option.{none, some}
 use Rattle.rule.specs.Rule as rule
 use Rattle.events.specs.declared.Event.{Event}
@@ -13,7 +13,7 @@ use Rattle.filing.specs.declared.Weighing.{Weighing}
 use Rattle.filing.specs.declared.Told.TheVariants.{Voted, Noted, Applied, Dropped}
 use Rattle.filing.specs.declared.Entries.{Entries}
 use Rattle.filing.specs.Slots.{RuleSlot, is_undecided, slot_of, place_of, committed_slot, is_blank}
-use Rattle.filing.specs.Entries.{RuleEntry, is_accepted, is_held, weighing_of, weighing_in, entry_of, entries_of, only_entry}
+use Rattle.filing.specs.Entries.{RuleEntry, is_accepted, is_held, weighing_of, weighing_in, entry_of, entries_of, only_entry, pushed}
 
 -- each field of a slot in the place's own
 pub record SlotForm : Type 0 where
@@ -47,6 +47,11 @@ pub record EntriesForm (xs : List RuleEntry) (entries : Entries) : Type 0 where
   pub unused : drop (length xs) entries.at ≡ replicate (17 - length xs) (record { transaction = 0; filed = record { second = 0 }; told = Noted })
   pub seventeen : length xs ≤ 17 → length entries.at ≡ 17
 
+-- one entry more is the newest; where seventeen are there, there is none more
+pub record PushedForm (xs : List RuleEntry) (x : RuleEntry) : Type 0 where
+  pub more : length xs < 17 → pushed (entries_of xs) (entry_of x) ≡ entries_of (xs ++ (x ∷ []))
+  pub full : 17 ≤ length xs → pushed (entries_of xs) (entry_of x) ≡ entries_of xs
+
 -- what is asked of a decision and of a verdict
 pub record TestForm : Type 0 where
   pub undecided : map is_undecided (Undecided ∷ Committed ∷ []) ≡ true ∷ false ∷ []
@@ -58,5 +63,6 @@ pub record FormsHold : Type 0 where
   pub entry : (t : ℕ) (g : Filed) (e : Event) (n k : ℕ) → EntryForm t g e n k
   pub weighing : WeighingForm
   pub entries : (xs : List RuleEntry) → EntriesForm xs (entries_of xs)
+  pub pushes : (xs : List RuleEntry) (x : RuleEntry) → PushedForm xs x
   pub only : (x : RuleEntry) → EntriesForm (x ∷ []) (only_entry (entry_of x))
   pub tests : TestForm

@@ -1,27 +1,27 @@
 // What is filed with an event, the place that an event takes on an account, and the entries of one call, as values (docs/REGISTER.md, 2 and 9).
 #![tactic(auto)]
 
-ghost use Rattle.std.specs.Prelude.{◌≡◌};
+ghost use Rattle.std.specs.Prelude.{◌≡◌, take};
 ghost use Rattle.rule.specs.Rule as rule;
 ghost use Rattle.filing.specs.Slots.{is_undecided, is_blank_filed, is_blank, committed_slot};
-ghost use Rattle.filing.specs.Entries.{is_accepted, is_held, weighing_of, entry_of, only_entry};
+ghost use Rattle.filing.specs.Entries.{is_accepted, is_held, weighing_of, entry_of, only_entry, pushed};
 
 use events::Event;
 
 // What is filed with an event and its entries: nothing that is decided looks at it.
-#[derive(Clone, Copy, Drop)]
+#[derive(Clone, Copy, PartialEq, Eq, Drop)]
 pub struct Filed {
     pub second: u32,
 }
 
-#[derive(Clone, Copy, Drop)]
+#[derive(Clone, Copy, PartialEq, Eq, Drop)]
 pub enum Decision {
     Undecided,
     Committed,
 }
 
 // A place of an account: an event in progress, or a request held, which has no decision and stands as undecided.
-#[derive(Clone, Copy, Drop)]
+#[derive(Clone, Copy, PartialEq, Eq, Drop)]
 pub struct Slot {
     pub transaction: u32,
     pub filed: Filed,
@@ -30,7 +30,7 @@ pub struct Slot {
 }
 
 // How a request is decided.
-#[derive(Clone, Copy, Drop)]
+#[derive(Clone, Copy, PartialEq, Eq, Drop)]
 pub enum Verdict {
     Accepted,
     Rejected,
@@ -38,7 +38,7 @@ pub enum Verdict {
 }
 
 // A decision, the number of outcomes weighed for it, and the reason of a rejection, 0 for any other.
-#[derive(Clone, Copy, Drop)]
+#[derive(Clone, Copy, PartialEq, Eq, Drop)]
 pub struct Weighing {
     pub verdict: Verdict,
     pub weighed: u32,
@@ -46,7 +46,7 @@ pub struct Weighing {
 }
 
 // What an entry says of its transaction: a vote with its weighing, a commit noted, an event applied with the balance after it, an event dropped.
-#[derive(Clone, Copy, Drop)]
+#[derive(Clone, Copy, PartialEq, Eq, Drop)]
 pub enum Told {
     Voted(Event, Weighing),
     Noted,
@@ -55,7 +55,7 @@ pub enum Told {
 }
 
 // An entry, as a value: without the number of the account, which an account does not know.
-#[derive(Clone, Copy, Drop)]
+#[derive(Clone, Copy, PartialEq, Eq, Drop)]
 pub struct Entry {
     pub transaction: u32,
     pub filed: Filed,
@@ -63,7 +63,7 @@ pub struct Entry {
 }
 
 // The entries of one call, in the order in which they were written: the first `count` places; the others are blank.
-#[derive(Clone, Copy, Drop)]
+#[derive(Clone, Copy, PartialEq, Eq, Drop)]
 pub struct Entries {
     pub at: [Entry; Entries::MOST],
     pub count: usize,
@@ -77,7 +77,7 @@ impl Filed {
     pub fn is_blank(self) -> bool
         ensures { result ≡ is_blank_filed self }
     {
-        self.second == 0
+        self == Filed::BLANK
     }
 }
 
@@ -86,10 +86,7 @@ impl Decision {
     pub fn is_undecided(self) -> bool
         ensures { result ≡ is_undecided self }
     {
-        match self {
-            Decision::Undecided => true,
-            Decision::Committed => false,
-        }
+        matches!(self, Decision::Undecided)
     }
 }
 
@@ -109,23 +106,16 @@ impl Slot {
     pub fn is_blank(self) -> bool
         ensures { result ≡ is_blank self }
     {
-        let filed = self.filed;
-        let event = self.event;
-        let decision = self.decision;
-        (self.transaction == 0) && filed.is_blank() && event.is_blank() && decision.is_undecided()
+        self == Slot::BLANK
     }
 
     // The place, committed.
     pub fn committed(self) -> Slot
         ensures { result ≡ committed_slot self }
     {
-        let filed = self.filed;
-        let event = self.event;
         Slot {
-            transaction: self.transaction,
-            filed,
-            event,
             decision: Decision::Committed,
+            ..self
         }
     }
 }
@@ -135,22 +125,14 @@ impl Verdict {
     pub fn is_accepted(self) -> bool
         ensures { result ≡ is_accepted self }
     {
-        match self {
-            Verdict::Accepted => true,
-            Verdict::Rejected => false,
-            Verdict::Held => false,
-        }
+        matches!(self, Verdict::Accepted)
     }
 
     // Whether it is to hold.
     pub fn is_held(self) -> bool
         ensures { result ≡ is_held self }
     {
-        match self {
-            Verdict::Accepted => false,
-            Verdict::Rejected => false,
-            Verdict::Held => true,
-        }
+        matches!(self, Verdict::Held)
     }
 }
 
@@ -175,12 +157,10 @@ impl Entry {
     pub fn voted(slot: Slot, weighing: Weighing) -> Entry
         ensures { result ≡ entry_of (rule.voted slot.transaction slot.filed slot.event (weighing_of weighing)) }
     {
-        let filed = slot.filed;
-        let event = slot.event;
         Entry {
             transaction: slot.transaction,
-            filed,
-            told: Told::Voted(event, weighing),
+            filed: slot.filed,
+            told: Told::Voted(slot.event, weighing),
         }
     }
 
@@ -199,12 +179,10 @@ impl Entry {
     pub fn applied(slot: Slot, balance: u32) -> Entry
         ensures { result ≡ entry_of (rule.applied slot.transaction slot.filed slot.event balance) }
     {
-        let filed = slot.filed;
-        let event = slot.event;
         Entry {
             transaction: slot.transaction,
-            filed,
-            told: Told::Applied(event, balance),
+            filed: slot.filed,
+            told: Told::Applied(slot.event, balance),
         }
     }
 
@@ -212,12 +190,10 @@ impl Entry {
     pub fn dropped(slot: Slot) -> Entry
         ensures { result ≡ entry_of (rule.dropped slot.transaction slot.filed slot.event) }
     {
-        let filed = slot.filed;
-        let event = slot.event;
         Entry {
             transaction: slot.transaction,
-            filed,
-            told: Told::Dropped(event),
+            filed: slot.filed,
+            told: Told::Dropped(slot.event),
         }
     }
 }
@@ -236,8 +212,25 @@ impl Entries {
     pub fn only(entry: Entry) -> Entries
         ensures { result ≡ only_entry entry }
     {
-        let mut at = [Entry::BLANK; Entries::MOST];
-        at[0] = entry;
-        Entries { at, count: 1 }
+        let mut only = Entries::NONE;
+        only.push(entry);
+        only
+    }
+
+    // The entries that were written, as a slice.
+    pub fn as_slice(&self) -> &[Entry]
+        ensures { result.now ≡ take self.now.count self.now.at }
+    {
+        &self.at[..self.count.min(Entries::MOST)]
+    }
+
+    // One entry more, the newest; with no place left the entries stay as they are.
+    pub fn push(&mut self, entry: Entry)
+        ensures { self.new ≡ pushed self.old entry }
+    {
+        if self.count < Entries::MOST {
+            self.at[self.count] = entry;
+            self.count += 1;
+        }
     }
 }

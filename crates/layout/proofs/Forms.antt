@@ -4,4 +4,4 @@ use mathlib.Core.Path.{refl}
 use Rattle.layout.specs.Forms.{WritingForm}
 
 pub writing-form : WritingForm
-writing-form = record { written = λ n. refl; refused = λ n. refl }
+writing-form = record { written = λ n. refl; refused = λ r. refl }

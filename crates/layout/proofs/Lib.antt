@@ -7,6 +7,7 @@ pub mod Rows
 pub mod Tables
 pub mod Reading
 pub mod Answers
+pub mod Writes
 pub mod Plain
 pub mod Heading
 pub mod Forms

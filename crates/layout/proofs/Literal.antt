@@ -69,7 +69,7 @@ literal-holds =
       fields = fields-literal;
       table = table-literal;
       buffer =
-          λ bytes buffer n.
+          λ bytes buffer r.
           record {
             over = refl;
             front = take_at bytes (drop (length bytes) buffer) (length bytes) refl;

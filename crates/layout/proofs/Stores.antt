@@ -7,7 +7,7 @@ use mathlib.Core.Path.{◌≡◌, refl, ◌∙◌}
 use mathlib.Core.List.{List, [], ◌∷◌, ◌++◌}
 use lib.ListN.{length, set}
 use lib.Seq.{sets, sets-eq, set_out, set_comm}
-use Rattle.layout.specs.Answers.{laid_over}
+use Rattle.layout.specs.Writes.{laid_over}
 
 module _ {ℓ} {A : Type ℓ} where
   -- stores that go on where others ended

@@ -4,6 +4,7 @@ pub mod Heading
 pub mod Shapes
 pub mod Reading
 pub mod Answers
+pub mod Writes
 pub mod Inverse
 pub mod Plain
 pub mod Vectors

@@ -1,13 +1,13 @@
 -- The words in which bytes are told, each said a second time in cells, over all numbers and wherever they stand (docs/REGISTER.md, 8.1 and 9.1): numbers of 2 and of 4 bytes, the heading, what
 -- is filed, a row of a table of kinds, a buffer that begins with bytes. A word that stands in a statement cannot be changed with it.
 -- Assumes nothing.
-use Rattle.std.specs.Prelude.{ℕ, ◌+◌, ◌*◌, ◌/◌, ◌%◌, ◌<◌, ◌≡◌, List, [], ◌∷◌, ◌++◌, length, take, drop}
+use Rattle.std.specs.Prelude.{ℕ, ◌+◌, ◌*◌, ◌/◌, ◌%◌, ◌<◌, ◌≡◌, List, [], ◌∷◌, ◌++◌, length, take, drop, Ok, Err}
 use Rattle.std.proofs.Math.Option.{none, some}
-use Rattle.layout.specs.declared.Writing.TheVariants.{Written, Refused}
+use Rattle.refusal.specs.declared.Refusal.{Refusal}
 use Rattle.layout.specs.Number.{bytes_of, number_at}
 use Rattle.layout.specs.Fields.{written, numbers_at, total, heading, last_account, KindRow, kind_row, row_of_kind, whole_of, then_of, widths_of}
 use Rattle.layout.specs.Heading.{heading_numbers, filed_from, FiledFits}
-use Rattle.layout.specs.Answers.{laid_over, wrote_over, refused_with}
+use Rattle.layout.specs.Writes.{laid_over, wrote_over, refused_with}
 use Rattle.layout.specs.Plain.{two_at, four_at, two_of, four_of, filed_in, heading_bytes}
 
 -- a number among other bytes, highest byte first, and its bytes
@@ -54,16 +54,16 @@ pub record TableLiteral (kind other whole : ℕ) (then : List ℕ) (rows : List 
   pub widths : widths_of (some (record { kind = kind; whole = whole; then = then })) ≡ 1 ∷ 4 ∷ 2 ∷ 4 ∷ then
 
 -- a buffer that begins with bytes, all of it; what a writer leaves and answers, and a refusal
-pub record BufferLiteral (bytes buffer : List ℕ) (n : ℕ) : Type 0 where
+pub record BufferLiteral (bytes buffer : List ℕ) (r : Refusal) : Type 0 where
   pub over : laid_over bytes buffer ≡ bytes ++ drop (length bytes) buffer
   pub front : take (length bytes) (laid_over bytes buffer) ≡ bytes
   pub behind : drop (length bytes) (laid_over bytes buffer) ≡ drop (length bytes) buffer
-  pub wrote : wrote_over bytes buffer ≡ record { answer = Written (length bytes); buffer = bytes ++ drop (length bytes) buffer }
-  pub refused : refused_with n buffer ≡ record { answer = Refused n; buffer = buffer }
+  pub wrote : wrote_over bytes buffer ≡ record { answer = Ok (length bytes); buffer = bytes ++ drop (length bytes) buffer }
+  pub refused : refused_with r buffer ≡ record { answer = Err r; buffer = buffer }
 
 pub record LiteralHolds : Type 0 where
   pub number : (before after : List ℕ) (a b c d n : ℕ) → NumberLiteral before after a b c d n
   pub heading' : (k t a s : ℕ) → HeadingLiteral k t a s
   pub fields : (width number at : ℕ) (widths numbers bytes : List ℕ) → FieldsLiteral width number at widths numbers bytes
   pub table : (kind other whole : ℕ) (then : List ℕ) (rows : List KindRow) → TableLiteral kind other whole then rows
-  pub buffer : (bytes buffer : List ℕ) (n : ℕ) → BufferLiteral bytes buffer n
+  pub buffer : (bytes buffer : List ℕ) (r : Refusal) → BufferLiteral bytes buffer r

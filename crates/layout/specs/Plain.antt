@@ -6,7 +6,7 @@ use Rattle.filing.specs.declared.Filed.{Filed}
 use Rattle.layout.specs.Number.{bytes_of, number_at, AreBytes}
 use Rattle.layout.specs.Fields.{written, heading}
 use Rattle.layout.specs.Heading.{heading_numbers}
-use Rattle.layout.specs.Answers.{laid_over}
+use Rattle.layout.specs.Writes.{laid_over}
 
 -- the number in 2 bytes, and in 4
 abbrev pub two_at : (bytes : List ℕ) (at : ℕ) → ℕ

@@ -4,7 +4,7 @@ use Rattle.std.specs.Prelude.{◌≡◌, [], ◌∷◌}
 use Rattle.layout.specs.Number.{bytes_of, number_at}
 use Rattle.layout.specs.Fields.{written, heading, last_account}
 use Rattle.layout.specs.Heading.{heading_numbers, filed_from}
-use Rattle.layout.specs.Answers.{laid_over}
+use Rattle.layout.specs.Writes.{laid_over}
 
 pub record VectorsHold : Type 0 where
   -- a number and its bytes, highest first, among other bytes

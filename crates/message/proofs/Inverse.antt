@@ -8,6 +8,9 @@ use mathlib.Core.List.{List, [], ◌++◌}
 use mathlib.Core.Option.{Option}
 use lib.Dec.{eqb, lit<}
 use lib.ListN.{length, get_or, length-append}
+use Rattle.std.specs.Prelude.{Result, Ok, Err}
+use Rattle.refusal.specs.declared.Refusal.{Refusal}
+use Rattle.refusal.specs.declared.Refusal.TheVariants.{Torn, UnknownKind, UnknownAccount}
 use Rattle.layout.specs.Number.{number_at, AreBytes}
 use Rattle.layout.specs.Fields.{KindRow, row_of_kind, whole_of, then_of, widths_of, numbers_at, last_account}
 use Rattle.events.specs.Kinds.{event_of}
@@ -19,7 +22,6 @@ use Rattle.layout.proofs.Heading.{fit-heading, filed-fits}
 use Rattle.layout.proofs.Tables.{present}
 use Rattle.layout.proofs.Reading.{past, taken-row, taken-by, read_written}
 use Rattle.message.specs.declared.Message.{Message}
-use Rattle.message.specs.declared.Reading.TheVariants as Reading'
 use Rattle.message.specs.Bytes.{messages, kind_of, heading_of, numbers_of, message_by, message_of, bytes_of_message, length_of_message}
 use Rattle.message.specs.Answers.{message_reader, read_of, read_kind}
 use Rattle.message.specs.Inverse.{ReadsWritten, WritesRead}
@@ -51,17 +53,22 @@ pub record Taken (found : Option KindRow) (bytes : List ℕ) (m : Message) (whol
   pub message : message_of (numbers_at (widths_of found) bytes 0) ≡ m
   pub length' : whole_of found ≡ whole
 
-refused-is-none : (number : ℕ) (m : Message) (whole : ℕ) → Reading'.Refused number ≡ Reading'.Message m whole → ⊥
-refused-is-none number m whole e = let z : ◌≡◌ {A = ℕ} 0 1 = cc in omega arith
+refused-is-none : (r : Refusal) (x : Message × ℕ) → ◌≡◌ {A = Result (Message × ℕ) Refusal} (Err r) (Ok x) → ⊥
+refused-is-none r x e = cc
 
-pub taken_of : (bytes : List ℕ) (m : Message) (whole : ℕ) → read_of bytes ≡ Reading'.Message m whole → Taken (row_of_kind messages (number_at bytes 0 1)) bytes m whole
+pub ok_same : (m n : Message) (k l : ℕ) → ◌≡◌ {A = Result (Message × ℕ) Refusal} (Ok (m, k)) (Ok (n, l)) → (m ≡ n) × (k ≡ l)
+ok_same m n k l e =
+    let f : ◌≡◌ {A = Message × ℕ} (m, k) (n, l) = cc in
+    (ap (λ (p : Message × ℕ). p.0) f, ap (λ (p : Message × ℕ). p.1) f)
+
+pub taken_of : (bytes : List ℕ) (m : Message) (whole : ℕ) → read_of bytes ≡ Ok (m, whole) → Taken (row_of_kind messages (number_at bytes 0 1)) bytes m whole
 unfolding read_of
 taken_of bytes m whole e =
     let kind = number_at bytes 0 1 in
-    let no : (number : ℕ) → Reading'.Refused number ≡ Reading'.Message m whole → ⊥ = λ number. refused-is-none number m whole in
-    let s = past (eqb (length bytes) 0) (Reading'.Refused 1) (read_kind (row_of_kind messages kind) bytes) (Reading'.Message m whole) (no 1) e in
-    let t = taken-by message_reader (Reading'.Message m whole) (no 2) (no 1) (no 3) messages kind bytes every-length s.1 in
-    record { positive = t.positive; enough = t.enough; account = t.account; message = cc t.answered; length' = cc t.answered }
+    let s = past (eqb (length bytes) 0) (Err Torn) (read_kind (row_of_kind messages kind) bytes) (Ok (m, whole)) (refused-is-none Torn (m, whole)) e in
+    let t = taken-by message_reader (Ok (m, whole)) (refused-is-none UnknownKind (m, whole)) (refused-is-none Torn (m, whole)) (refused-is-none UnknownAccount (m, whole)) messages kind bytes every-length s.1 in
+    let same = ok_same (message_of (numbers_at (widths_of (row_of_kind messages kind)) bytes 0)) m (whole_of (row_of_kind messages kind)) whole t.answered in
+    record { positive = t.positive; enough = t.enough; account = t.account; message = same.0; length' = same.1 }
 
 -- the numbers that were read are those of the message
 numbers-row : (bytes : List ℕ) (kind : ℕ) → kind ≡ number_at bytes 0 1 → 0 < whole_of (row_of_kind messages kind)

@@ -2,7 +2,7 @@
 -- Assumes nothing.
 use Prim.Native.Nat.{ℕ, ◌+◌, ◌*◌, ◌<◌}
 use native.Mathlib.Omega.{arith}
-use mathlib.Core.Path.{◌≡◌, refl, ◌∙◌}
+use mathlib.Core.Path.{◌≡◌, refl, ap, ◌∙◌}
 use mathlib.Core.Logic.{◌⊎◌, inl, inr}
 use mathlib.Core.Bool.{false, ◌&&◌}
 use mathlib.Core.List.{List, [], ◌∷◌}
@@ -10,18 +10,20 @@ use mathlib.Core.Option.{some}
 use borrow.Author.Tests.{lt-ltb, le-ltb, le-leb, lt-leb, ne_eqb}
 use lib.Dec.{eqb, leb}
 use lib.ListN.{length}
+use Rattle.std.specs.Prelude.{Result, Ok, Err}
+use Rattle.refusal.specs.declared.Refusal.{Refusal}
+use Rattle.refusal.specs.Numbers.{number_of, numbered}
+use Rattle.refusal.proofs.Literal as Told
 use Rattle.message.specs.declared.Message.{Message}
-use Rattle.message.specs.declared.Reading.{Reading}
-use Rattle.message.specs.declared.Reading.TheVariants as Reading'
 use Rattle.message.specs.Bytes.{heading_of, length_of_message}
 use Rattle.message.specs.Answers.{said_of_reading, read_of, write_of}
 use Rattle.message.specs.Literal.{ReaderLiteral, WriterLiteral, LiteralHolds}
 use Rattle.message.proofs.Refusals.{reader-refuses}
 
 -- an answer whose refusal has a number is that refusal
-refusal_is : (x : Reading) (n : ℕ) → (said_of_reading x).refusal ≡ some n → x ≡ Reading'.Refused n
-refusal_is (Reading'.Message m whole) n e = let z : ◌≡◌ {A = ℕ} 0 1 = cc in absurd (omega arith)
-refusal_is (Reading'.Refused k) n e = let f : k ≡ n = cc in rw f refl
+refusal_is : (x : Result (Message × ℕ) Refusal) (n : ℕ) → (said_of_reading x).refusal ≡ some n → x ≡ Err (numbered n)
+refusal_is (Ok r) n e = cc
+refusal_is (Err r) n e = let f : number_of r ≡ n = cc in cc (Told.literal-holds.told r, ap numbered f)
 
 module _ (kind : ℕ) (rest : List ℕ) where
   none_is : (kind ≡ 0) ⊎ (6 < kind) → leb 1 kind && leb kind 6 ≡ false

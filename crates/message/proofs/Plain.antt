@@ -7,6 +7,7 @@ use mathlib.Core.Path.{◌≡◌, refl, ap, sym, ◌∙◌}
 use mathlib.Core.List.{List, []}
 use lib.ListN.{length, drop, get_or}
 use Rattle.events.specs.declared.Event.TheVariants.{Open, Withdraw, Deposit, Close}
+use Rattle.std.specs.Prelude.{Ok}
 use Rattle.layout.specs.Number.{number_at}
 use Rattle.layout.specs.Fields.{written, row_of_kind, whole_of, numbers_at}
 use Rattle.events.specs.Kinds.{event_of}
@@ -16,14 +17,13 @@ use Rattle.layout.proofs.Plain.{numbers-plain}
 use Rattle.layout.proofs.Heading.{filed-plain}
 use Rattle.message.specs.declared.Message.{Message}
 use Rattle.message.specs.declared.Message.TheVariants.{Request, Commit, Abort}
-use Rattle.message.specs.declared.Reading.TheVariants as Reading'
 use Rattle.message.specs.Bytes.{messages, kind_of, heading_of, message_by, bytes_of_message, length_of_message}
 use Rattle.message.specs.Answers.{said_of_reading, read_of}
 use Rattle.message.specs.Plain.{MessagesPlain, length_in, heading_in, Stands, Begins, ReaderTakes, WriterReadBack}
 use Rattle.message.proofs.Shapes.{shaped}
 use Rattle.message.proofs.Reader.{heading_at, read_taken}
 use Rattle.message.proofs.Writer.{length-message, write-taken}
-use Rattle.message.proofs.Inverse.{taken_of, reads-written}
+use Rattle.message.proofs.Inverse.{ok_same, taken_of, reads-written}
 use Rattle.message.proofs.Refusals.{readings-apart}
 
 pub messages-plain : MessagesPlain
@@ -76,14 +76,15 @@ module _ (bytes : List ℕ) (kind : ℕ) (p : 0 < whole_of (row_of_kind messages
       messages kind (refl, (refl, (refl, (refl, (refl, (refl, tt)))))) p
 
 -- what was taken stands at the beginning
-taken-begins : (bytes : List ℕ) (m : Message) (whole : ℕ) → read_of bytes ≡ Reading'.Message m whole → Begins bytes m whole
+taken-begins : (bytes : List ℕ) (m : Message) (whole : ℕ) → read_of bytes ≡ Ok (m, whole) → Begins bytes m whole
 unfolding numbers_at
 taken-begins bytes m whole e =
     let kind = number_at bytes 0 1 in
     let t = taken_of bytes m whole e in
     let z : length bytes ≡ 0 → ⊥ = λ n. omega (arith, t.positive, t.enough) in
     let r = read_taken bytes kind (whole_of (row_of_kind messages kind)) z refl refl (λ n. omega (arith, t.positive)) t.enough t.account in
-    let m' : message_by kind (heading_at bytes) (number_at bytes 11 4) ≡ m = cc (sym r ∙ e) in
+    let m' : message_by kind (heading_at bytes) (number_at bytes 11 4) ≡ m =
+    (ok_same (message_by kind (heading_at bytes) (number_at bytes 11 4)) m (whole_of (row_of_kind messages kind)) whole (sym r ∙ e)).0 in
     record {
       stands = rw m' at (stands_by bytes kind t.positive refl);
       account = rw (numbers-plain bytes 5 0).read2 at t.account;
@@ -106,7 +107,7 @@ parts bytes (Request h Close) s = record { kind = s.0; heading = s.1; message = 
 parts bytes (Commit h) s = record { kind = s.0; heading = s.1; message = refl }
 parts bytes (Abort h) s = record { kind = s.0; heading = s.1; message = refl }
 
-begins-taken : (bytes : List ℕ) (m : Message) (whole : ℕ) → Begins bytes m whole → read_of bytes ≡ Reading'.Message m whole
+begins-taken : (bytes : List ℕ) (m : Message) (whole : ℕ) → Begins bytes m whole → read_of bytes ≡ Ok (m, whole)
 unfolding length_of_message
 begins-taken bytes m whole b =
     let q = parts bytes m b.stands in
@@ -120,7 +121,7 @@ begins-taken bytes m whole b =
 
 pub reader-takes : ReaderTakes
 reader-takes bytes m whole = (
-  (λ e. taken-begins bytes m whole (readings-apart (read_of bytes) (Reading'.Message m whole) e)),
+  (λ e. taken-begins bytes m whole (readings-apart (read_of bytes) (Ok (m, whole)) e)),
   (λ b. ap said_of_reading (begins-taken bytes m whole b)),
 )
 

@@ -9,17 +9,21 @@ use mathlib.Core.Option.{Option, none, some}
 use borrow.Author.Tests.{leb-true, leb-false, ltb-false}
 use lib.Dec.{leb, ltb, eqb}
 use lib.ListN.{length, get_or}
+use Rattle.std.specs.Prelude.{Result, Ok, Err}
+use Rattle.refusal.specs.declared.Refusal.{Refusal}
+use Rattle.refusal.specs.declared.Refusal.TheVariants.{UnknownAccount, NoRoom, Torn}
+use Rattle.refusal.specs.Numbers.{number_of, numbered}
+use Rattle.refusal.proofs.Literal as Told
 use Rattle.rule.specs.Tests.{test, first_of}
 use Rattle.layout.specs.Number.{number_at}
 use Rattle.layout.specs.Fields.{KindRow, row_of_kind, whole_of, widths_of, numbers_at}
 use Rattle.layout.specs.Plain.{two_at}
-use Rattle.layout.specs.Answers as Answers'
-use Rattle.layout.specs.Answers.{wrote_over, refused_with}
+use Rattle.layout.specs.Writes as Writes'
+use Rattle.layout.specs.Writes.{wrote_over, refused_with}
 use Rattle.layout.proofs.Tables.{unknown}
 use Rattle.layout.proofs.Plain.{numbers-plain}
-use Rattle.layout.proofs.Answers.{wrote-stays, cond-stays}
-use Rattle.message.specs.declared.Reading.{Reading}
-use Rattle.message.specs.declared.Reading.TheVariants as Reading'
+use Rattle.layout.proofs.Writes.{wrote-stays, cond-stays}
+use Rattle.message.specs.declared.Message.{Message}
 use Rattle.message.specs.Bytes.{messages, heading_of, message_of, bytes_of_message, length_of_message}
 use Rattle.message.specs.Answers.{SaidOfReading, said_of_reading, read_of, read_kind, read_numbers, write_of}
 use Rattle.message.specs.Refusals.{kind_length, LengthsPlain, ReaderRefuses, WriterRefuses, WriterStays, ReadingsApart}
@@ -28,9 +32,9 @@ use Rattle.message.proofs.Shapes.{shaped}
 use Rattle.message.proofs.Writer.{length-message}
 
 -- the refusal where a test comes first
-reading-cond : (b : Bool) (number : ℕ) (next : Reading) → (said_of_reading (cond b (Reading'.Refused number) next)).refusal ≡ cond b (some number) (said_of_reading next).refusal
-reading-cond true number next = refl
-reading-cond false number next = refl
+reading-cond : (b : Bool) (r : Refusal) (next : Result (Message × ℕ) Refusal) → (said_of_reading (cond b (Err r) next)).refusal ≡ cond b (some (number_of r)) (said_of_reading next).refusal
+reading-cond true r next = refl
+reading-cond false r next = refl
 
 -- the length of a kind, by its two tests
 module _ (kind : ℕ) where
@@ -70,8 +74,8 @@ row-refuses none bytes whole w p = absurd (omega arith)
 row-refuses (some r) bytes whole w p =
     let numbers = numbers_at (widths_of (some r)) bytes 0 in
     rw (← w, ← (numbers-plain bytes 5 0).read2)
-    (reading-cond (ltb (length bytes) r.whole) 1 (read_numbers r.whole numbers)
-    ∙ ap (cond (ltb (length bytes) r.whole) (some 1)) (reading-cond (ltb 15 (number_at bytes 5 2)) 3 (Reading'.Message (message_of numbers) r.whole)))
+    (reading-cond (ltb (length bytes) r.whole) Torn (read_numbers r.whole numbers)
+    ∙ ap (cond (ltb (length bytes) r.whole) (some 1)) (reading-cond (ltb 15 (number_at bytes 5 2)) UnknownAccount (Ok (message_of numbers, r.whole))))
 
 kind-refuses : (kind : ℕ) (bytes : List ℕ) → (said_of_reading (read_kind (row_of_kind messages kind) bytes)).refusal
     ≡ first_of (test (not (leb 1 kind && leb kind 6)) 2 ∷ test (ltb (length bytes) (kind_length kind)) 1 ∷ test (ltb 15 (two_at bytes 5)) 3 ∷ [])
@@ -88,14 +92,14 @@ unfolding read_of
 reader-refuses bytes =
     let kind = get_or bytes 0 0 in
     rw (numbers-plain bytes 0 0).read1
-    (reading-cond (eqb (length bytes) 0) 1 (read_kind (row_of_kind messages kind) bytes) ∙ ap (cond (eqb (length bytes) 0) (some 1)) (kind-refuses kind bytes))
+    (reading-cond (eqb (length bytes) 0) Torn (read_kind (row_of_kind messages kind) bytes) ∙ ap (cond (eqb (length bytes) 0) (some 1)) (kind-refuses kind bytes))
 
 pub writer-refuses : WriterRefuses
 unfolding write_of
 writer-refuses m buffer = rw (← (shaped m).length') (go (ltb 15 (heading_of m).account) (ltb (length buffer) (length_of_message m)))
   where
     go : (a b : Bool)
-        → (Answers'.said_of_writing (cond a (refused_with 3 buffer) (cond b (refused_with 4 buffer) (wrote_over (bytes_of_message m) buffer))).answer).refusal
+        → (Writes'.said_of_writing (cond a (refused_with UnknownAccount buffer) (cond b (refused_with NoRoom buffer) (wrote_over (bytes_of_message m) buffer))).answer).refusal
         ≡ cond a (some 3) (cond b (some 4) none)
     go true b = refl
     go false true = refl
@@ -104,14 +108,16 @@ writer-refuses m buffer = rw (← (shaped m).length') (go (ltb 15 (heading_of m)
 pub writer-stays : WriterStays
 unfolding write_of
 writer-stays m buffer =
-    let next = cond (ltb (length buffer) (length_of_message m)) (refused_with 4 buffer) (wrote_over (bytes_of_message m) buffer) in
-    cond-stays (ltb 15 (heading_of m).account) 3 buffer next
-    (λ a. cond-stays (ltb (length buffer) (length_of_message m)) 4 buffer (wrote_over (bytes_of_message m) buffer)
+    let next = cond (ltb (length buffer) (length_of_message m)) (refused_with NoRoom buffer) (wrote_over (bytes_of_message m) buffer) in
+    cond-stays (ltb 15 (heading_of m).account) UnknownAccount buffer next
+    (λ a. cond-stays (ltb (length buffer) (length_of_message m)) NoRoom buffer (wrote_over (bytes_of_message m) buffer)
     (λ b. wrote-stays (bytes_of_message m) buffer (rw (length-message m) (ltb-false (length buffer) (length_of_message m) b))))
 
 pub readings-apart : ReadingsApart
-readings-apart (Reading'.Message m n) (Reading'.Message k o) e =
-    let f = ap (λ (g : SaidOfReading). g.message) e in let h = ap (λ (g : SaidOfReading). g.consumed) e in cc
-readings-apart (Reading'.Message m n) (Reading'.Refused k) e = let f = ap (λ (g : SaidOfReading). g.refusal) e in let z : ◌≡◌ {A = ℕ} 0 1 = cc in absurd (omega arith)
-readings-apart (Reading'.Refused n) (Reading'.Message m k) e = let f = ap (λ (g : SaidOfReading). g.refusal) e in let z : ◌≡◌ {A = ℕ} 0 1 = cc in absurd (omega arith)
-readings-apart (Reading'.Refused n) (Reading'.Refused k) e = let f = ap (λ (g : SaidOfReading). g.refusal) e in cc
+readings-apart (Ok (m, n)) (Ok (k, o)) e = let f = ap (λ (g : SaidOfReading). g.message) e in let h = ap (λ (g : SaidOfReading). g.consumed) e in cc
+readings-apart (Ok r) (Err s) e = let f = ap (λ (g : SaidOfReading). g.refusal) e in cc
+readings-apart (Err r) (Ok s) e = let f = ap (λ (g : SaidOfReading). g.refusal) e in cc
+readings-apart (Err r) (Err s) e =
+    let f = ap (λ (g : SaidOfReading). g.refusal) e in
+    let same : number_of r ≡ number_of s = cc in
+    cc (Told.literal-holds.told r, Told.literal-holds.told s, ap numbered same)

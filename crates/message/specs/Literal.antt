@@ -1,14 +1,13 @@
 -- The words in which messages are told, each said a second time in numbers and lists (docs/REGISTER.md, 8.1), and what reader and writer give, test by test and whatever else holds (10.1):
 -- a word that stands in a statement cannot be changed with it.
 -- Assumes nothing.
-use Rattle.std.specs.Prelude.{ℕ, ◌+◌, ◌*◌, ◌≤◌, ◌<◌, ◌≡◌, ◌↔◌, ◌⊎◌, List, [], ◌∷◌, ◌++◌, map, length, get_or, drop}
+use Rattle.std.specs.Prelude.{ℕ, ◌+◌, ◌*◌, ◌≤◌, ◌<◌, ◌≡◌, ◌↔◌, ◌⊎◌, List, [], ◌∷◌, ◌++◌, map, length, get_or, drop, Ok, Err}
 use Rattle.std.proofs.Math.Option.{none, some}
 use Rattle.events.specs.declared.Event.TheVariants.{Open, Withdraw, Deposit, Close}
-use Rattle.layout.specs.declared.Writing.TheVariants.{Written, Refused}
+use Rattle.refusal.specs.Numbers.{numbered}
 use Rattle.message.specs.declared.Heading.{Heading}
 use Rattle.message.specs.declared.Message.{Message}
 use Rattle.message.specs.declared.Message.TheVariants.{Request, Commit, Abort}
-use Rattle.message.specs.declared.Reading.TheVariants as Reading'
 use Rattle.message.specs.Bytes.{kind_of, heading_of, amount_in, bytes_of_message, length_of_message}
 use Rattle.message.specs.Answers.{read_of, write_of}
 use Rattle.message.specs.Plain.{of_each_kind, length_in, taken, heading_in, Stands}
@@ -49,19 +48,19 @@ pub record StandsLiteral (bytes : List ℕ) (h : Heading) (a : ℕ) : Type 0 whe
 
 -- the reader's refusals: no byte; a kind that is none, however few bytes follow; too few bytes, whatever they are; an account above 15 in a whole message
 pub record ReaderLiteral (kind : ℕ) (rest : List ℕ) : Type 0 where
-  pub empty : read_of [] ≡ Reading'.Refused 1
-  pub unknown : (kind ≡ 0) ⊎ (6 < kind) → read_of (kind ∷ rest) ≡ Reading'.Refused 2
-  pub short_amount : 1 ≤ kind → kind ≤ 3 → length rest < 14 → read_of (kind ∷ rest) ≡ Reading'.Refused 1
-  pub short : 4 ≤ kind → kind ≤ 6 → length rest < 10 → read_of (kind ∷ rest) ≡ Reading'.Refused 1
-  pub elsewhere_amount : (t₁ t₂ t₃ t₄ a₁ a₂ : ℕ) → 1 ≤ kind → kind ≤ 3 → 8 ≤ length rest → 15 < a₁ * 256 + a₂ → read_of (kind ∷ t₁ ∷ t₂ ∷ t₃ ∷ t₄ ∷ a₁ ∷ a₂ ∷ rest) ≡ Reading'.Refused 3
-  pub elsewhere : (t₁ t₂ t₃ t₄ a₁ a₂ : ℕ) → 4 ≤ kind → kind ≤ 6 → 4 ≤ length rest → 15 < a₁ * 256 + a₂ → read_of (kind ∷ t₁ ∷ t₂ ∷ t₃ ∷ t₄ ∷ a₁ ∷ a₂ ∷ rest) ≡ Reading'.Refused 3
+  pub empty : read_of [] ≡ Err (numbered 1)
+  pub unknown : (kind ≡ 0) ⊎ (6 < kind) → read_of (kind ∷ rest) ≡ Err (numbered 2)
+  pub short_amount : 1 ≤ kind → kind ≤ 3 → length rest < 14 → read_of (kind ∷ rest) ≡ Err (numbered 1)
+  pub short : 4 ≤ kind → kind ≤ 6 → length rest < 10 → read_of (kind ∷ rest) ≡ Err (numbered 1)
+  pub elsewhere_amount : (t₁ t₂ t₃ t₄ a₁ a₂ : ℕ) → 1 ≤ kind → kind ≤ 3 → 8 ≤ length rest → 15 < a₁ * 256 + a₂ → read_of (kind ∷ t₁ ∷ t₂ ∷ t₃ ∷ t₄ ∷ a₁ ∷ a₂ ∷ rest) ≡ Err (numbered 3)
+  pub elsewhere : (t₁ t₂ t₃ t₄ a₁ a₂ : ℕ) → 4 ≤ kind → kind ≤ 6 → 4 ≤ length rest → 15 < a₁ * 256 + a₂ → read_of (kind ∷ t₁ ∷ t₂ ∷ t₃ ∷ t₄ ∷ a₁ ∷ a₂ ∷ rest) ≡ Err (numbered 3)
 
 -- the writer: 3 for an account above 15, whatever the buffer is; 4 in a buffer that is shorter than the message; else its bytes, how many they are, and the rest of the buffer as it was
 pub record WriterLiteral (m : Message) (buffer : List ℕ) : Type 0 where
-  pub elsewhere : 15 < (heading_of m).account → write_of m buffer ≡ record { answer = Refused 3; buffer = buffer }
-  pub roomless : (heading_of m).account ≤ 15 → length buffer < length_of_message m → write_of m buffer ≡ record { answer = Refused 4; buffer = buffer }
+  pub elsewhere : 15 < (heading_of m).account → write_of m buffer ≡ record { answer = Err (numbered 3); buffer = buffer }
+  pub roomless : (heading_of m).account ≤ 15 → length buffer < length_of_message m → write_of m buffer ≡ record { answer = Err (numbered 4); buffer = buffer }
   pub written : (heading_of m).account ≤ 15 → length_of_message m ≤ length buffer
-      → write_of m buffer ≡ record { answer = Written (length (bytes_of_message m)); buffer = bytes_of_message m ++ drop (length (bytes_of_message m)) buffer }
+      → write_of m buffer ≡ record { answer = Ok (length (bytes_of_message m)); buffer = bytes_of_message m ++ drop (length (bytes_of_message m)) buffer }
 
 pub record LiteralHolds : Type 0 where
   pub kinds : (h : Heading) (a : ℕ) → KindsLiteral h a

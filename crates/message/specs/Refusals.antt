@@ -1,13 +1,13 @@
 -- When the reader and the writer refuse: the tests of each in their order (docs/REGISTER.md, 10.1).
 -- Assumes nothing.
-use Rattle.std.specs.Prelude.{ℕ, ◌≡◌, cond, not, ◌&&◌, List, [], ◌∷◌, eqb, leb, ltb, length, get_or}
+use Rattle.std.specs.Prelude.{ℕ, ◌≡◌, cond, not, ◌&&◌, List, [], ◌∷◌, eqb, leb, ltb, length, get_or, Result}
+use Rattle.refusal.specs.declared.Refusal.{Refusal}
 use Rattle.rule.specs.Tests.{Test, test, first_of}
 use Rattle.layout.specs.Fields.{row_of_kind, whole_of}
 use Rattle.layout.specs.Plain.{two_at}
-use Rattle.layout.specs.Answers as Answers'
-use Rattle.layout.specs.Answers.{Stays}
+use Rattle.layout.specs.Writes as Writes'
+use Rattle.layout.specs.Writes.{Stays}
 use Rattle.message.specs.declared.Message.{Message}
-use Rattle.message.specs.declared.Reading.{Reading}
 use Rattle.message.specs.Bytes.{messages, heading_of}
 use Rattle.message.specs.Answers.{said_of_reading, read_of, write_of}
 use Rattle.message.specs.Plain.{length_in}
@@ -37,11 +37,11 @@ abbrev pub ReaderRefuses : Type 0
 ReaderRefuses = (bytes : List ℕ) → (said_of_reading (read_of bytes)).refusal ≡ first_of (reader_tests bytes)
 
 abbrev pub WriterRefuses : Type 0
-WriterRefuses = (m : Message) (buffer : List ℕ) → (Answers'.said_of_writing (write_of m buffer).answer).refusal ≡ first_of (writer_tests m buffer)
+WriterRefuses = (m : Message) (buffer : List ℕ) → (Writes'.said_of_writing (write_of m buffer).answer).refusal ≡ first_of (writer_tests m buffer)
 
 abbrev pub WriterStays : Type 0
 WriterStays = (m : Message) (buffer : List ℕ) → Stays buffer (write_of m buffer)
 
 -- what is said of the reader's answer tells the answers apart
 abbrev pub ReadingsApart : Type 0
-ReadingsApart = (r s : Reading) → said_of_reading r ≡ said_of_reading s → r ≡ s
+ReadingsApart = (r s : Result (Message × ℕ) Refusal) → said_of_reading r ≡ said_of_reading s → r ≡ s

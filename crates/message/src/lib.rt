@@ -9,7 +9,8 @@ ghost use Rattle.message.specs.Answers.{read_of, write_of};
 
 use events::Event;
 use filing::Filed;
-use layout::{Shape, Writing};
+use layout::Shape;
+use refusal::Refusal;
 
 // What every message brings.
 #[derive(Clone, Copy, Drop)]
@@ -26,56 +27,50 @@ pub enum Message {
     Abort(Heading),
 }
 
-// What the reader answers: the message and its length, or the number of its refusal.
-#[derive(Clone, Copy, Drop)]
-pub enum Reading {
-    Message(Message, usize),
-    Refused(u8),
-}
-
-// The message that the bytes begin with; bytes after it are not looked at.
-pub fn read_message(bytes: &[u8]) -> Reading
+// The message that the bytes begin with, and its length; bytes after it are not looked at.
+pub fn read_message(bytes: &[u8]) -> Result<(Message, usize), Refusal>
     ensures { result ≡ read_of bytes.now }
 {
     if bytes.len() == 0 {
-        return Reading::Refused(1);
+        return Err(Refusal::Torn);
     }
     let kind = layout::number1(bytes, 0);
     let shape = shape_of(kind);
     if shape.whole == 0 {
-        return Reading::Refused(2);
+        return Err(Refusal::UnknownKind);
     }
     if bytes.len() < shape.whole {
-        return Reading::Refused(1);
+        return Err(Refusal::Torn);
     }
     let widths = shape.widths;
     let numbers = layout::read_numbers(bytes, widths);
     if numbers[2] > layout::LAST_ACCOUNT as u32 {
-        return Reading::Refused(3);
+        return Err(Refusal::UnknownAccount);
     }
     let heading = Heading {
         transaction: numbers[1],
         account: numbers[2] as u16,
         filed: layout::filed_from(numbers),
     };
-    Reading::Message(message_of(kind, heading, numbers[4]), shape.whole)
+    Ok((message_of(kind, heading, numbers[4]), shape.whole))
 }
 
 // Writes a message to the beginning of a buffer.
-pub fn write_message(message: Message, buffer: &mut [u8]) -> Writing
-    ensures { (result ≡ (write_of message buffer.old).answer) × (buffer.new ≡ (write_of message buffer.old).buffer) }
+pub fn write_message(message: Message, buffer: &mut [u8]) -> Result<usize, Refusal>
+    ensures answer { result ≡ (write_of message buffer.old).answer }
+    ensures buffer { buffer.new ≡ (write_of message buffer.old).buffer }
 {
     let heading = heading_of(message);
     if layout::LAST_ACCOUNT < heading.account {
-        return Writing::Refused(3);
+        return Err(Refusal::UnknownAccount);
     }
     let shape = shape_of(kind_of(message));
     if buffer.len() < shape.whole {
-        return Writing::Refused(4);
+        return Err(Refusal::NoRoom);
     }
     let widths = shape.widths;
     layout::put_numbers(buffer, 0, widths, numbers_of(message));
-    Writing::Written(shape.whole)
+    Ok(shape.whole)
 }
 
 // The whole length of a message of a kind, and 0 for a kind that is none of 1 to 6.

@@ -1,6 +1,6 @@
 -- What the account's own helpers cite, applied to the first panel once: the definitions are over any rule of the events.
 -- Assumes nothing.
-use Rattle.std.specs.Prelude.{ℕ, Bool, List}
+use Rattle.std.specs.Prelude.{ℕ, Bool, List, Result}
 use Rattle.events.specs.declared.Event.{Event}
 use Rattle.events.specs.declared.State.{State}
 use Rattle.filing.specs.declared.Slot.{Slot}
@@ -8,16 +8,14 @@ use Rattle.filing.specs.declared.Weighing.{Weighing}
 use Rattle.filing.specs.declared.Entry.{Entry}
 use Rattle.filing.specs.declared.Entries.{Entries}
 use Rattle.filing.specs.Slots.{RuleSlot}
+use Rattle.refusal.specs.declared.Refusal.{Refusal}
 use Rattle.account.specs.declared.Account.{Account}
-use Rattle.account.specs.declared.Answer.{Answer}
-use Rattle.account.specs.declared.Stepped.{Stepped}
 use Rattle.account.specs.declared.judging.Judged.{Judged}
 use Rattle.account.specs.declared.outcomes.Outcomes.{Outcomes}
 use Rattle.account.specs.declared.question.Reached.{Reached}
-use Rattle.account.specs.declared.refusing.Asked.{Asked}
 use Rattle.account.specs.First.{panel}
 use Rattle.account.specs.inside.Known.{KnowsBy, DecidesBy, StaysHeldBy}
-use Rattle.account.specs.inside.Judged.{JudgesBy, answer_by}
+use Rattle.account.specs.inside.Judged.{JudgesBy, request_answer_by}
 use Rattle.account.specs.inside.Taken.{SettlesBy, DrainsBy}
 use Rattle.account.specs.inside.Reached.{followed_by}
 
@@ -31,19 +29,19 @@ Decides requests e progressing o w = DecidesBy panel requests e progressing o w
 abbrev pub StaysHeld : Event → (progressing : ℕ) → Outcomes → Bool → Type 0
 StaysHeld e progressing o r = StaysHeldBy panel e progressing o r
 
--- judging, and the answer by it
+-- judging, and whether a request is taken by it
 abbrev pub Judges : Account → (transaction : ℕ) → Judged → Type 0
 Judges a t r = JudgesBy panel a t r
 
-abbrev pub answer_of : Judged → Asked → (holding : ℕ) → Answer
-answer_of j asked holding = answer_by panel j asked holding
+abbrev pub request_answer : Judged → (holding : ℕ) → Result (Unit {0}) Refusal
+request_answer j holding = request_answer_by panel j holding
 
 -- what follows a commit or an abort
-abbrev pub Settles : Account → (marked : ℕ) → Entry → Stepped → Type 0
-Settles a marked first r = SettlesBy panel a marked first r
+abbrev pub Settles : Account → (marked : ℕ) → Entry → Account → Entries → Type 0
+Settles a marked first next entries = SettlesBy panel a marked first next entries
 
-abbrev pub Drains : Account → Entries → Stepped → Type 0
-Drains a entries r = DrainsBy panel a entries r
+abbrev pub Drains : Account → Entries → Account → Entries → Type 0
+Drains a before next entries = DrainsBy panel a before next entries
 
 -- the way of the outcome question
 abbrev pub followed : Reached → Slot → Reached

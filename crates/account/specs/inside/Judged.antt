@@ -1,6 +1,6 @@
 -- What judging an account finds, and the refusals by it, as the account's own helpers have it, over any rule of the events (docs/REGISTER.md, 6 and 10.1).
 -- Assumes nothing.
-use Rattle.std.specs.Prelude.{ℕ, ◌+◌, ◌<◌, ◌≡◌, Bool, true, cond, not, ◌&&◌, ◌||◌, List, [], ◌∷◌, ◌++◌, eqb, leb, ltb, get_or}
+use Rattle.std.specs.Prelude.{ℕ, ◌+◌, ◌<◌, ◌≡◌, Bool, true, cond, not, ◌&&◌, ◌||◌, List, [], ◌∷◌, ◌++◌, eqb, leb, ltb, get_or, Result, Ok, Err}
 use Rattle.rule.specs.Lists.{some_of, keep}
 use Rattle.rule.specs.Rule.{Rule, Message, request, commit, abort}
 use Rattle.rule.specs.Step.{named}
@@ -9,12 +9,10 @@ use Rattle.events.specs.declared.State.{State}
 use Rattle.filing.specs.declared.Filed.{Filed}
 use Rattle.filing.specs.declared.Slot.{Slot}
 use Rattle.filing.specs.Slots.{places, blank, is_undecided, slot_of}
+use Rattle.refusal.specs.declared.Refusal.{Refusal}
+use Rattle.refusal.specs.declared.Refusal.TheVariants.{NotInOrder, KnownTransaction, AllHeld, UnknownTransaction, HeldTransaction, CommittedAlready, CommittedBefore}
 use Rattle.account.specs.declared.Account.{Account}
-use Rattle.account.specs.declared.Answer.{Answer}
-use Rattle.account.specs.declared.Answer.TheVariants.{Refused, Taken}
 use Rattle.account.specs.declared.judging.Judged.{Judged}
-use Rattle.account.specs.declared.refusing.Asked.{Asked}
-use Rattle.account.specs.declared.refusing.Asked.TheVariants.{Request, Commit, Abort}
 use Rattle.account.specs.Places.{used, lists_of}
 use Rattle.account.specs.InOrder.{in_order_by}
 use Rattle.account.specs.inside.Known.{KnowsBy}
@@ -43,31 +41,32 @@ pub record JudgesBy (R : Rule State Event ℕ) (a : Account) (t : ℕ) (r : Judg
   pub slot : in_order_by R a ≡ true → (some_of (named t) (lists_of a).progress || some_of (named t) (lists_of a).held) ≡ true
       → keep (named t) (lists_of a).progress ++ keep (named t) (lists_of a).held ≡ slot_of r.slot ∷ []
 
--- the answers, by what was found
-abbrev pub request_answer : (named full : Bool) → Answer
-request_answer named full = cond named (Refused 6) (cond full (Refused 7) Taken)
+-- where the transaction stands, by what was found: held, and in progress or held
+abbrev pub waits : Judged → Bool
+waits j = ltb j.request places
 
-abbrev pub commit_answer : (named waits committed : Bool) → Answer
-commit_answer named waits committed = cond (not named) (Refused 8) (cond waits (Refused 9) (cond committed (Refused 10) Taken))
+abbrev pub is_named : Judged → Bool
+is_named j = ltb j.event places || waits j
 
-abbrev pub abort_answer : (named committed : Bool) → Answer
-abort_answer named committed = cond (not named) (Refused 8) (cond committed (Refused 11) Taken)
+-- whether what is asked is taken, by what was found
+abbrev pub request_answer_by : Rule State Event ℕ → Judged → (holding : ℕ) → Result (Unit {0}) Refusal
+request_answer_by R j holding = cond j.in_order (cond (is_named j) (Err KnownTransaction) (cond (leb R.held_limit holding) (Err AllHeld) (Ok tt))) (Err NotInOrder)
 
-module _ (R : Rule State Event ℕ) where
-  abbrev pub asked_answer : Judged → Asked → ℕ → Answer
-  asked_answer j Request holding = request_answer (ltb j.event places || ltb j.request places) (leb R.held_limit holding)
-  asked_answer j Commit holding = commit_answer (ltb j.event places || ltb j.request places) (ltb j.request places) (not (is_undecided j.slot.decision))
-  asked_answer j Abort holding = abort_answer (ltb j.event places || ltb j.request places) (not (is_undecided j.slot.decision))
+abbrev pub commit_answer : Judged → Result (Unit {0}) Refusal
+commit_answer j =
+    cond j.in_order
+    (cond (not (is_named j)) (Err UnknownTransaction) (cond (waits j) (Err HeldTransaction) (cond (not (is_undecided j.slot.decision)) (Err CommittedAlready) (Ok tt))))
+    (Err NotInOrder)
 
-  unfoldable pub answer_by : Judged → Asked → ℕ → Answer
-  answer_by j asked holding = cond j.in_order (asked_answer j asked holding) (Refused 5)
+abbrev pub abort_answer : Judged → Result (Unit {0}) Refusal
+abort_answer j = cond j.in_order (cond (not (is_named j)) (Err UnknownTransaction) (cond (not (is_undecided j.slot.decision)) (Err CommittedBefore) (Ok tt))) (Err NotInOrder)
 
--- what a message asks, and the transaction that it names
-abbrev pub message_asks : Message Filed Event → Asked
-message_asks (request t g e) = Request
-message_asks (commit t g) = Commit
-message_asks (abort t g) = Abort
+abbrev pub answer_by : Rule State Event ℕ → Judged → Message Filed Event → (holding : ℕ) → Result (Unit {0}) Refusal
+answer_by R j (request t g e) holding = request_answer_by R j holding
+answer_by R j (commit t g) holding = commit_answer j
+answer_by R j (abort t g) holding = abort_answer j
 
+-- the transaction that a message names
 abbrev pub message_names : Message Filed Event → ℕ
 message_names (request t g e) = t
 message_names (commit t g) = t

@@ -14,16 +14,15 @@ use Rattle.filing.specs.declared.Entries.{Entries}
 use Rattle.filing.specs.Slots.{RuleSlot, committed_slot, places, blank}
 use Rattle.filing.specs.Entries.{RuleEntry, entry_of, entries_of}
 use Rattle.account.specs.declared.Account.{Account}
-use Rattle.account.specs.declared.Answer.TheVariants as Answer'
-use Rattle.account.specs.declared.Stepped.{Stepped}
 use Rattle.account.specs.Places.{RuleAccount, used, account_of}
+use Rattle.account.specs.Steps.{Stepped, taken_step}
 
 abbrev pub RuleStep : Type 0
 RuleStep = rule-step.Step Filed State Event ℕ
 
 -- the rule's step, in places
 unfoldable pub taken_as : RuleStep → Stepped
-taken_as step = record { account = account_of step.account; entries = entries_of step.entries; answer = Answer'.Taken }
+taken_as step = taken_step (account_of step.account) (entries_of step.entries)
 
 -- an account of the rule
 abbrev pub listed : State → (progress held : List RuleSlot) → RuleAccount
@@ -42,18 +41,18 @@ marked_at at slots = set slots at (committed_slot (get_or slots at blank))
 
 module _ (R : Rule State Event ℕ) where
   -- what follows a commit or an abort of an account that is its lists', whose requests held have no decision, behind the call's own entry
-  abbrev pub SettlesBy : Account → ℕ → Entry → Stepped → Type 0
-  SettlesBy a marked first r =
+  abbrev pub SettlesBy : Account → ℕ → Entry → Account → Entries → Type 0
+  SettlesBy a marked first next entries =
       (x : RuleAccount) (events : List RuleSlot) (own : RuleEntry)
       → a ≡ account_of x → every without_decision x.held ≡ true
       → (marked < places → marked < a.progressing) → used (marked_at marked a.progress) a.progressing ≡ events
       → first ≡ entry_of own → guarded R x.state [] events ≡ true
-      → r ≡ taken_as (rule-step.after (own ∷ []) (rule-step.settle R x.state events x.held))
+      → taken_step next entries ≡ taken_as (rule-step.after (own ∷ []) (rule-step.settle R x.state events x.held))
 
   -- the requests held of such an account, behind what was written
-  abbrev pub DrainsBy : Account → Entries → Stepped → Type 0
-  DrainsBy a entries r =
+  abbrev pub DrainsBy : Account → Entries → Account → Entries → Type 0
+  DrainsBy a before next entries =
       (x : RuleAccount) (written : List RuleEntry)
       → a ≡ account_of x → every without_decision x.held ≡ true
-      → entries ≡ entries_of written → guarded R x.state [] x.progress ≡ true
-      → r ≡ taken_as (rule-step.after written (rule-step.drain R x.state x.progress x.held))
+      → before ≡ entries_of written → guarded R x.state [] x.progress ≡ true
+      → taken_step next entries ≡ taken_as (rule-step.after written (rule-step.drain R x.state x.progress x.held))

@@ -2,7 +2,6 @@
 -- Assumes nothing.
 use Rattle.std.proofs.Common.{◌≡◌, ◌<◌, sym, ◌∙◌, length, true, arith}
 use Rattle.filing.specs.Entries.{is_accepted}
-use Rattle.account.proofs.Handed.{eight-in-progress, eight-held}
 use Rattle.account.proofs.Known.{knows-few}
 use Rattle.account.proofs.First.{first-ranged}
 use Rattle.account.proofs.Voting.{voting-none, voting-stays, voting-accept, voting-reject, voting-all}
@@ -11,16 +10,16 @@ use Rattle.account.proofs.Account.drain.Goals.{then-at-voted, then-is_accepted, 
 
 pub loop-at-init : goal.loop-at-init
 loop-at-init c =
-    let a = c.args.self in
-    let size : length a.progress ≡ 8 = eight-in-progress a c.well_formed.0 in
-    let size_held : length a.held ≡ 8 = eight-held a c.well_formed.0 in
-    voting-none _ a c.args.written c.outcomes-outcomes.result c.requires.0 (omega arith) c.requires.1 (omega arith) c.requires.2 c.outcomes-outcomes.ensures
+    let a = c.args.self.now in
+    let size : length a.progress ≡ 8 = omega arith in
+    let size_held : length a.held ≡ 8 = omega arith in
+    voting-none _ a c.args.entries.now c.outcomes-outcomes.result c.requires.0 (omega arith) c.requires.1 (omega arith) c.requires.2 c.outcomes-outcomes.ensures
 
 pub with-outcomes-requires : goal.with-outcomes-requires
 with-outcomes-requires c =
     let v = c.loop-at in
     let accepted : is_accepted c.decide-weighing.result.verdict ≡ true = sym c.is_accepted.ensures ∙ c.if-is_accepted.true in
-    let free : v.next.progressing < 8 = omega (arith, c.decide-weighing.ensures.free accepted) in
+    let free : v.self.progressing < 8 = omega (arith, c.decide-weighing.ensures.free accepted) in
     knows-few _ _ v.invariant.events v.outcomes v.invariant.knows (omega (arith, free, v.invariant.number))
 
 pub loop-at-preserved : goal.loop-at-preserved
@@ -28,23 +27,23 @@ loop-at-preserved c =
     let weigh = c.decide-weighing in
     let a = c.args in
     let v = c.loop-at in
-    let below : v.at < a.self.holding = c.loop-at-test.true in
+    let below : v.at < a.self.now.holding = omega (arith, c.loop-at-test.true, v.invariant.holding) in
     elim c.if-at-voted.branch [
       | then-at-voted w ↦
           let first = rw c.is_held.ensures at w.if-at-voted.true in
           let entry = w.voted in
           elim w.if-is_accepted.branch [
             | then-is_accepted u ↦
-                rw (w.next-is, w.entries-is, w.outcomes-is, w.voted-is, u.next-is, u.outcomes-is)
-                (voting-accept _ a.self a.written v.next v.entries v.outcomes v.voted v.at v.invariant below weigh.result weigh.ensures entry.result entry.ensures first first-ranged u.with-outcomes.result (sym w.is_accepted.ensures ∙ u.if-is_accepted.true) u.with-outcomes.ensures)
+                rw (w.self-is, w.entries-is, w.outcomes-is, w.voted-is, u.self-is, u.outcomes-is)
+                (voting-accept _ a.self.now a.entries.now v.self v.entries v.outcomes v.voted v.at v.invariant below weigh.result weigh.ensures entry.result entry.ensures first first-ranged u.with-outcomes.result (sym w.is_accepted.ensures ∙ u.if-is_accepted.true) u.with-outcomes.ensures)
             | else-is_accepted u ↦
-                rw (w.next-is, w.entries-is, w.outcomes-is, w.voted-is, u.next-is, u.outcomes-is)
-                (voting-reject _ a.self a.written v.next v.entries v.outcomes v.voted v.at v.invariant below weigh.result weigh.ensures entry.result entry.ensures first (sym w.is_accepted.ensures ∙ u.if-is_accepted.false))
+                rw (w.self-is, w.entries-is, w.outcomes-is, w.voted-is, u.self-is, u.outcomes-is)
+                (voting-reject _ a.self.now a.entries.now v.self v.entries v.outcomes v.voted v.at v.invariant below weigh.result weigh.ensures entry.result entry.ensures first (sym w.is_accepted.ensures ∙ u.if-is_accepted.false))
           ]
       | else-at-voted w ↦
-          rw (w.next-is, w.entries-is, w.outcomes-is, w.voted-is)
-          (voting-stays _ a.self a.written v.next v.entries v.outcomes v.voted v.at v.invariant below weigh.result weigh.ensures (rw c.is_held.ensures at w.if-at-voted.false))
+          rw (w.self-is, w.entries-is, w.outcomes-is, w.voted-is)
+          (voting-stays _ a.self.now a.entries.now v.self v.entries v.outcomes v.voted v.at v.invariant below weigh.result weigh.ensures (rw c.is_held.ensures at w.if-at-voted.false))
     ]
 
 pub returns : goal.returns
-returns c = voting-all _ c.args.self c.args.written c.loop-at.next c.loop-at.entries c.loop-at.outcomes c.loop-at.voted c.loop-at.at c.loop-at.invariant c.loop-at-test.false
+returns c = voting-all _ c.args.self.now c.args.entries.now c.loop-at.self c.loop-at.entries c.loop-at.outcomes c.loop-at.voted c.loop-at.at c.loop-at.invariant (omega (arith, c.loop-at-test.false, c.loop-at.invariant.holding))

@@ -6,7 +6,6 @@ use Rattle.rule.proofs.Lists.{or_left, or_right}
 use Rattle.filing.specs.Slots.{blank}
 use Rattle.account.specs.Places.{used}
 use Rattle.account.specs.First.{progress_limit, held_limit}
-use Rattle.account.proofs.Handed.{eight-in-progress, eight-held}
 use Rattle.account.proofs.Places.{used-more, count-used}
 use Rattle.account.proofs.Known.{knows-few, knows-end}
 use Rattle.account.proofs.Sought.{SoughtBefore, sought-here, sought-else}
@@ -24,28 +23,28 @@ limits progressing holding h = (
 
 pub returns-then-progressing-holding : goal.returns-then-progressing-holding
 returns-then-progressing-holding c =
-    let a = c.args.self in
+    let a = c.args.self.now in
     judges-not _ a c.args.transaction c.disordered.result c.disordered.ensures (beyond _ a c.if-progressing-holding.true)
 
 pub with-outcomes-requires : goal.with-outcomes-requires
 with-outcomes-requires c =
-    let a = c.args.self in
+    let a = c.args.self.now in
     let v = c.loop-at in
     let few = limits a.progressing a.holding c.if-progressing-holding.false in
-    let many = eight-in-progress a c.well_formed.0 in
+    let many : length a.progress ≡ 8 = omega arith in
     let room : length (used a.progress v.at) ≤ 7 = rw (count-used a.progress v.at (omega arith)) (omega arith) in
     knows-few _ a.state (used a.progress v.at) v.outcomes v.invariant.0 room
 
 pub loop-at-preserved : goal.loop-at-preserved
 loop-at-preserved c =
-    let a = c.args.self in
+    let a = c.args.self.now in
     let t = c.args.transaction in
     let v = c.loop-at in
     let join = c.if-transaction-slot in
     let x = get_or a.progress v.at blank in
     let less = c.loop-at-test.true in
     let few = limits a.progressing a.holding c.if-progressing-holding.false in
-    let many = eight-in-progress a c.well_formed.0 in
+    let many : length a.progress ≡ 8 = omega arith in
     let room : v.at < length a.progress = omega arith in
     let here = sought-here t a.progress blank v.at v.event v.found room v.invariant.1.sought join.event join.found (omega arith) in
     let else = sought-else t a.progress blank v.at v.event v.found room v.invariant.1.sought join.event join.found in
@@ -57,23 +56,23 @@ loop-at-preserved c =
 
 pub returns-then-not-is_blank : goal.returns-then-not-is_blank
 returns-then-not-is_blank c =
-    let a = c.args.self in
+    let a = c.args.self.now in
     let passed : c.loop-at.at ≡ a.progressing = omega (arith, c.loop-at.invariant.1.within, c.loop-at-test.false) in
     let v = c.loop-at-2 in
-    let broken = blanks-broken a.progress c.loop-at.at v.at (omega arith) (eight-in-progress a c.well_formed.0) v.invariant (sym c.is_blank.ensures ∙ c.if-not-is_blank.true) in
+    let broken = blanks-broken a.progress c.loop-at.at v.at (omega arith) (omega arith) v.invariant (sym c.is_blank.ensures ∙ c.if-not-is_blank.true) in
     judges-not _ a c.args.transaction c.disordered-then-not-is_blank.result c.disordered-then-not-is_blank.ensures (marked-progress _ a c.loop-at.at passed broken)
 
 pub loop-at-3-preserved : goal.loop-at-3-preserved
 loop-at-3-preserved c =
-    let a = c.args.self in
+    let a = c.args.self.now in
     let t = c.args.transaction in
     let w = c.loop-at in
     let v = c.loop-at-3 in
     let join = c.if-transaction-slot-2 in
     let less = c.loop-at-3-test.true in
     let few = limits a.progressing a.holding c.if-progressing-holding.false in
-    let many = eight-in-progress a c.well_formed.0 in
-    let many_held = eight-held a c.well_formed.0 in
+    let many : length a.progress ≡ 8 = omega arith in
+    let many_held : length a.held ≡ 8 = omega arith in
     let room : v.at < length a.held = omega arith in
     let here = sought-here t a.held w.found v.at v.request v.found room v.invariant.sought join.request join.found (omega arith) in
     let else = sought-else t a.held w.found v.at v.request v.found room v.invariant.sought join.request join.found in
@@ -87,16 +86,16 @@ loop-at-3-preserved c =
 
 pub returns-then-not-is_blank-2 : goal.returns-then-not-is_blank-2
 returns-then-not-is_blank-2 c =
-    let a = c.args.self in
+    let a = c.args.self.now in
     let w = c.loop-at-3 in
     let passed : w.at ≡ a.holding = omega (arith, w.invariant.within, c.loop-at-3-test.false) in
     let v = c.loop-at-4 in
-    let broken = blanks-broken a.held w.at v.at (omega arith) (eight-held a c.well_formed.0) v.invariant (sym c.is_blank-in-loop-at-4.ensures ∙ c.if-not-is_blank-2.true) in
+    let broken = blanks-broken a.held w.at v.at (omega arith) (omega arith) v.invariant (sym c.is_blank-in-loop-at-4.ensures ∙ c.if-not-is_blank-2.true) in
     judges-not _ a c.args.transaction c.disordered-then-not-is_blank-2.result c.disordered-then-not-is_blank-2.ensures (marked-held _ a w.at passed broken)
 
 pub returns : goal.returns
 returns c =
-    let a = c.args.self in
+    let a = c.args.self.now in
     let t = c.args.transaction in
     let v1 = c.loop-at in
     let v2 = c.loop-at-2 in
@@ -115,11 +114,11 @@ returns c =
       knows = knows-end _ a.state a.progress v1.outcomes v1.at a.progressing events-passed v1.invariant.0;
       passed = events-end _ a t v1.event v1.found v1.in_order v1.transactions v1.at events-passed v1.invariant.1;
       blanks = v1.in_order;
-      blank = blanks-end a.progress v1.at a.progressing v2.at events-passed c.loop-at-2-test.false (eight-in-progress a c.well_formed.0) v2.invariant v1.in_order;
+      blank = blanks-end a.progress v1.at a.progressing v2.at events-passed c.loop-at-2-test.false (omega arith) v2.invariant v1.in_order;
       requests = v3.in_order;
       listed_all = v3.transactions;
       passed_held =
           requests-end _ a t v1.outcomes.guarded v1.found v1.in_order v1.transactions v3.request v3.found v3.in_order v3.transactions v3.at requests-passed v3.invariant;
-      blank_held = blanks-end a.held v3.at a.holding v4.at requests-passed c.loop-at-4-test.false (eight-held a c.well_formed.0) v4.invariant v3.in_order;
+      blank_held = blanks-end a.held v3.at a.holding v4.at requests-passed c.loop-at-4-test.false (omega arith) v4.invariant v3.in_order;
       differs = c.differ.ensures;
     })

@@ -8,7 +8,7 @@ use Rattle.account.proofs.Account.settle.Given as goal
 
 abbrev pub invariant-loop-at : goal.invariant-loop-at
 invariant-loop-at l =
-    (l.initial.next.progress ≡ marked_at l.marked l.self.progress) × Applying l.self l.initial.next.progress (only_entry l.fn.first) l.next l.entries l.state l.ended l.at
+    (l.initial.self.progress ≡ marked_at l.marked l.fn.self.progress) × Applying l.fn.self l.initial.self.progress (only_entry l.fn.first) l.self l.entries l.ended l.at
 
 abbrev pub decreases-loop-at : goal.decreases-loop-at
 decreases-loop-at l = l.self.progressing - l.at

@@ -1,16 +1,35 @@
--- Where there is room for the longest of each, there is for the entries.
+-- Where there is room for the longest of each, there is for the entries; else the room that is left tells.
 -- Assumes nothing.
-use Rattle.std.proofs.Common.{◌≤◌, ◌≡◌, length, sym, arith}
-use borrow.Author.Tests.{le-leb}
-use lib.ListN.{length-take}
-use Rattle.entry.specs.Bytes.{wholes_of, list_of}
-use Rattle.entry.proofs.Stored.{wholes-short}
+use Rattle.std.proofs.Common.{◌/◌, ◌≤◌, ◌≡◌, length, take, sym, arith}
+use borrow.Author.Tests.{le-leb, lt-leb}
+use Rattle.std.proofs.lemmas.List.{take_all}
+use Rattle.entry.specs.Bytes.{wholes_of}
+use Rattle.entry.proofs.Stored.{wholes-short, wholes-more, wholes-next}
 use Rattle.entry.proofs.writer.has_room.Goals as goal
 
-pub returns-then-used-length : goal.returns-then-used-length
-returns-then-used-length c =
+pub returns-then-entries-length : goal.returns-then-entries-length
+returns-then-entries-length c =
     let a = c.args in
-    let entries = a.entries in
-    let places : length entries.at ≡ 17 = omega arith in
-    let few : length (list_of entries) ≤ c.used.result = rw length-take (omega arith) in
-    sym (le-leb (wholes_of (list_of entries)) a.length (omega (arith, wholes-short (list_of entries))))
+    let few : length a.entries.now ≤ a.length / 40 = c.if-entries-length.true in
+    sym (le-leb (wholes_of a.entries.now) a.length (omega (arith, wholes-short a.entries.now)))
+
+pub loop-entry-init : goal.loop-entry-init
+unfolding wholes_of
+loop-entry-init c = omega arith
+
+pub returns-in_default : goal.returns-in_default
+returns-in_default c =
+    let a = c.args in
+    let next = wholes-next a.entries.now c.loop-entry.entry-index c.loop-entry-test.true in
+    sym (lt-leb (wholes_of a.entries.now) a.length (omega (arith, next, c.in_default.ensures)))
+
+pub loop-entry-preserved : goal.loop-entry-preserved
+loop-entry-preserved c =
+    rw (wholes-more c.args.entries.now c.loop-entry.entry-index c.loop-entry-test.true) (omega (arith, c.in-Some.ensures))
+
+pub returns : goal.returns
+returns c =
+    let a = c.args in
+    let all : take c.loop-entry.entry-index a.entries.now ≡ a.entries.now = take_all c.loop-entry.entry-index a.entries.now c.loop-entry-test.false in
+    let left = rw all at c.loop-entry.invariant in
+    sym (le-leb (wholes_of a.entries.now) a.length (omega arith))

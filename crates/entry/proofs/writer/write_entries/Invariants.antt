@@ -1,20 +1,14 @@
--- The buffer holds the entries passed, and `at` is their length. The measure is what is left of the count.
+-- The buffer holds the entries passed, and `at` is their length.
 -- Assumes nothing.
-use Rattle.std.proofs.Common.{ℕ, ◌*◌, ◌-◌, ◌≤◌, ◌≡◌, List, length, take}
+use Rattle.std.proofs.Common.{◌≡◌, length, take}
 use Rattle.std.proofs.lemmas.List.Edits.{sets}
-use Rattle.filing.specs.declared.Entry.{Entry}
 use Rattle.entry.specs.Bytes.{bytes_of_entries, wholes_of}
 use Rattle.entry.proofs.writer.write_entries.Given as goal
 
-pub record Stored (account : ℕ) (buffer₀ : List ℕ) (places : List Entry) (count : ℕ) (buffer : List ℕ) (at i : ℕ) : Type 0 where
-  pub within : i ≤ count
-  pub few : at ≤ 40 * i
-  pub place : at ≡ wholes_of (take i places)
-  pub size : length buffer ≡ length buffer₀
-  pub bytes : buffer ≡ sets buffer₀ 0 (bytes_of_entries account (take i places))
-
-abbrev pub invariant-loop-i : goal.invariant-loop-i
-invariant-loop-i l = Stored l.account l.initial.buffer l.entries.at l.count l.buffer l.at l.i
-
-abbrev pub decreases-loop-i : goal.decreases-loop-i
-decreases-loop-i l = l.count - l.i
+abbrev pub invariant-loop-entry : goal.invariant-loop-entry
+invariant-loop-entry l =
+    record {
+      place : l.at ≡ wholes_of (take l.entry-index l.entries);
+      size : length l.buffer ≡ length l.initial.buffer;
+      bytes : l.buffer ≡ sets l.initial.buffer 0 (bytes_of_entries l.account (take l.entry-index l.entries));
+    }
