@@ -1,8 +1,7 @@
 // The register's call and outcome question: frames 1 and 2.
 use crate::page::Page;
 use crate::{Unknown, page};
-use account::Outlook;
-use register::{Register, Reply};
+use register::Register;
 
 // Frame 1: the call, with a buffer of that room.
 pub(crate) fn call(
@@ -12,16 +11,14 @@ pub(crate) fn call(
 ) -> Result<(), Unknown> {
     let (room, bytes) = page::room(payload)?;
     let mut buffer = page::FILLED;
-    let called = register.call(bytes, page::lend(&mut buffer, room)?);
-    *register = called.register;
-    match called.reply {
-        Reply::Taken(consumed, written) => {
-            write!(page, "taken {consumed}");
-            page.written(&buffer, written);
+    match register.call(bytes, page::lend(&mut buffer, room)?) {
+        Ok(taken) => {
+            write!(page, "taken {}", taken.consumed);
+            page.written(&buffer, taken.written);
         }
-        Reply::Refused(number) => {
-            page.refused(number);
-            page.kept(&buffer, 0);
+        Err(refusal) => {
+            page.refused(refusal);
+            page.kept(&buffer);
         }
     }
     Ok(())
@@ -33,12 +30,12 @@ pub(crate) fn outcome(register: &Register, payload: &[u8], page: &mut Page) -> R
         return Err(Unknown);
     }
     match register.outlook(layout::number2(payload, 0), layout::number4(payload, 2)) {
-        Outlook::State(state, applied) => {
+        Ok(outlook) => {
             write!(page, "outcome");
-            page.state(state);
-            write!(page, " {applied}");
+            page.state(outlook.state);
+            write!(page, " {}", outlook.applied);
         }
-        Outlook::Refused(number) => page.refused(number),
+        Err(refusal) => page.refused(refusal),
     }
     Ok(())
 }

@@ -15,17 +15,13 @@ pub(crate) fn set(register: &mut Register, payload: &[u8], page: &mut Page) -> R
     let field = layout::number1(payload, 2);
     let place = layout::number1(payload, 3) as usize;
     let value = layout::number4(payload, 4);
-    set_field(
-        register.accounts.get_mut(number).ok_or(Unknown)?,
-        field,
-        place,
-        value,
-    )?;
+    let account = register.accounts.get_mut(number).ok_or(Unknown)?;
+    set_field(account, field, place, value)?;
     write!(page, "set");
     Ok(())
 }
 
-// Sets a field, if there is such a field and it takes the value.
+// Sets a field, if there is such a field and it takes the value. The numbers stay numbers: each names its field in one arm, and a value that it takes stands beside it.
 fn set_field(account: &mut Account, field: u8, place: usize, value: u32) -> Result<(), Unknown> {
     match (field, value) {
         (0, 0) => account.state.life = Life::New,
@@ -45,7 +41,7 @@ fn set_in_place(slot: &mut Slot, field: u8, value: u32) -> Result<(), Unknown> {
         (4, transaction) => slot.transaction = transaction,
         (5, second) => slot.filed = filed::of(second),
         (6, 1..=4) => slot.event = Event::of(value as u8, slot.event.amount()),
-        (7, amount) if slot.event.kind() != 4 => {
+        (7, amount) if slot.event != Event::Close => {
             slot.event = Event::of(slot.event.kind(), amount);
         }
         (8, 0) => slot.decision = Decision::Undecided,

@@ -1,31 +1,34 @@
 // The entry reader, and an entry's line of text: frames 7 and 67.
 use crate::page::Page;
 use crate::{filed, page};
-use entry::EntryReading;
 use filing::{Told, Verdict};
-use layout::Writing;
 
 // Frame 7: the entry reader.
 pub(crate) fn read(payload: &[u8], page: &mut Page) {
-    let EntryReading::Found(found, kind, account, length) = entry::read_entry(payload) else {
+    let Some((found, length)) = entry::read_entry(payload) else {
         write!(page, "none");
         return;
     };
-    write!(page, "entry {kind} {} {account}", found.transaction);
-    filed::put(page, ' ', found.filed);
-    put_told(found.told, kind, page, ' ');
+    let entry = found.entry;
+    write!(
+        page,
+        "entry {} {} {}",
+        found.kind, entry.transaction, found.account
+    );
+    filed::put(page, ' ', entry.filed);
+    put_told(entry.told, found.kind, page, ' ');
     write!(page, " {length}");
 }
 
 // Frame 67: the line of text of an entry, without its newline.
 pub(crate) fn line(payload: &[u8], page: &mut Page) {
-    let EntryReading::Found(found, kind, account, _) = entry::read_entry(payload) else {
+    let Some((found, _)) = entry::read_entry(payload) else {
         write!(page, "none");
         return;
     };
     let mut buffer = page::FILLED;
-    match text::write_line(found, kind, account, &mut buffer) {
-        Writing::Written(length) => {
+    match text::write_line(found, &mut buffer) {
+        Ok(length) => {
             for byte in buffer
                 .iter()
                 .take(length)
@@ -34,7 +37,7 @@ pub(crate) fn line(payload: &[u8], page: &mut Page) {
                 page.put(*byte);
             }
         }
-        Writing::Refused(number) => page.refused(number),
+        Err(refusal) => page.refused(refusal),
     }
 }
 

@@ -2,11 +2,6 @@
 use crate::page::Page;
 use filing::Filed;
 
-// What a frame files, from that byte on.
-pub(crate) fn read(payload: &[u8], at: usize) -> Filed {
-    of(layout::number4(payload, at))
-}
-
 // What is filed, by its number.
 pub(crate) fn of(second: u32) -> Filed {
     Filed { second }

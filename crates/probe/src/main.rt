@@ -13,6 +13,7 @@ mod steps;
 
 ghost use Rattle.std.specs.Prelude.{◌<◌, length, MatchOption, ⊤};
 
+use account::Account;
 use page::Page;
 use register::Register;
 
@@ -96,8 +97,9 @@ fn answer(
         3 => messages::read(payload, page),
         4 => messages::write(payload, page)?,
         5 => disturb::set(register, payload, page)?,
-        6 | 64 => look(register, code, payload, page)?,
+        6 => show::stored(named(register, payload)?, page),
         7 => entries::read(payload, page),
+        64 => show::order(named(register, payload)?, page),
         65 => runs::run(payload, page)?,
         67 => entries::line(payload, page),
         68 => steps::step(register, payload, page)?,
@@ -106,16 +108,11 @@ fn answer(
     Ok(())
 }
 
-// Answers a frame that names an account and nothing else.
-fn look(register: &Register, code: u8, payload: &[u8], page: &mut Page) -> Result<(), Unknown> {
+// The account that a frame names which has nothing else.
+fn named<'a>(register: &'a Register, payload: &[u8]) -> Result<&'a Account, Unknown> {
     if payload.len() != 2 {
         return Err(Unknown);
     }
     let number = layout::number2(payload, 0) as usize;
-    let account = register.accounts.get(number).ok_or(Unknown)?;
-    match code {
-        6 => show::stored(account, page),
-        _ => show::order(account, page),
-    }
-    Ok(())
+    register.accounts.get(number).ok_or(Unknown)
 }

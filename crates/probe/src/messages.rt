@@ -2,17 +2,16 @@
 use crate::page::Page;
 use crate::{Unknown, filed, page};
 use events::Event;
-use layout::Writing;
-use message::{Heading, Message, Reading};
+use message::{Heading, Message};
 
 // Frame 3: the message reader.
 pub(crate) fn read(payload: &[u8], page: &mut Page) {
     match message::read_message(payload) {
-        Reading::Message(message, length) => {
+        Ok((message, length)) => {
             put_message(message, page);
             write!(page, " {length}");
         }
-        Reading::Refused(number) => page.refused(number),
+        Err(refusal) => page.refused(refusal),
     }
 }
 
@@ -40,7 +39,7 @@ pub(crate) fn write(payload: &[u8], page: &mut Page) -> Result<(), Unknown> {
     let heading = Heading {
         transaction: layout::number4(payload, 1),
         account: layout::number2(payload, 5),
-        filed: filed::read(payload, 7),
+        filed: filed::of(layout::number4(payload, 7)),
     };
     let message = message_of(
         layout::number1(payload, 0),
@@ -50,13 +49,13 @@ pub(crate) fn write(payload: &[u8], page: &mut Page) -> Result<(), Unknown> {
     let mut buffer = page::FILLED;
     let lent = page::lend(&mut buffer, layout::number2(payload, 15))?;
     match message::write_message(message, lent) {
-        Writing::Written(length) => {
+        Ok(length) => {
             write!(page, "written");
             page.written(&buffer, length);
         }
-        Writing::Refused(number) => {
-            page.refused(number);
-            page.kept(&buffer, 0);
+        Err(refusal) => {
+            page.refused(refusal);
+            page.kept(&buffer);
         }
     }
     Ok(())

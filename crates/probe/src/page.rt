@@ -3,6 +3,7 @@ ghost use Rattle.std.specs.Prelude.{◌≡◌, ◌≤◌};
 
 use crate::Unknown;
 use events::{Event, Life, State};
+use refusal::Refusal;
 use std::fmt;
 use std::fmt::{Display, Write};
 
@@ -71,8 +72,8 @@ impl Page {
     }
 
     // Puts a refusal's number.
-    pub(crate) fn refused(&mut self, number: u8) {
-        write!(self, "refused {number}");
+    pub(crate) fn refused(&mut self, refusal: Refusal) {
+        write!(self, "refused {}", refusal.number());
     }
 
     // Puts an event's kind and amount, each behind a separator.
@@ -97,19 +98,20 @@ impl Page {
 
     // Puts the length written, the bytes written in hex, `-` where there are none, and whether the others are kept.
     pub(crate) fn written(&mut self, buffer: &Buffer, length: usize) {
+        let (written, others) = buffer.split_at(length.min(WIDEST));
         write!(self, " {length} ");
-        if length == 0 {
+        if written.is_empty() {
             write!(self, "-");
         }
-        for byte in buffer.iter().take(length) {
+        for byte in written {
             write!(self, "{byte:02x}");
         }
-        self.kept(buffer, length);
+        self.kept(others);
     }
 
-    // Puts whether every byte of a buffer from there on is as it was at first.
-    pub(crate) fn kept(&mut self, buffer: &Buffer, from: usize) {
-        let kept = buffer.iter().skip(from).all(|byte| *byte == FILL);
+    // Puts whether every byte that is not the call's is as it was at first.
+    pub(crate) fn kept(&mut self, others: &[u8]) {
+        let kept = others.iter().all(|byte| *byte == FILL);
         write!(self, "{}", if kept { " kept" } else { " spoilt" });
     }
 }

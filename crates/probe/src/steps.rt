@@ -1,7 +1,6 @@
-// The single steps of an account, by value: frame 68.
+// The single steps of an account: frame 68.
 use crate::page::Page;
 use crate::{Unknown, entries, filed, messages};
-use account::Answer;
 use filing::{Entries, Entry};
 use message::{Heading, Message};
 use register::Register;
@@ -18,7 +17,7 @@ pub(crate) fn step(
     let heading = Heading {
         transaction: layout::number4(payload, 3),
         account: layout::number2(payload, 0),
-        filed: filed::read(payload, 7),
+        filed: filed::of(layout::number4(payload, 7)),
     };
     let kind = layout::number1(payload, 2);
     let message = messages::message_of(kind, heading, layout::number4(payload, 11))?;
@@ -26,17 +25,21 @@ pub(crate) fn step(
         .accounts
         .get_mut(heading.account as usize)
         .ok_or(Unknown)?;
-    let stepped = match message {
+    let answer = match message {
         Message::Request(_, event) => account.request(heading.transaction, heading.filed, event),
         Message::Commit(_) => account.commit(heading.transaction, heading.filed),
         Message::Abort(_) => account.abort(heading.transaction, heading.filed),
     };
-    *account = stepped.account;
-    match stepped.answer {
-        Answer::Taken => write!(page, "taken"),
-        Answer::Refused(number) => page.refused(number),
+    match answer {
+        Ok(entries) => {
+            write!(page, "taken");
+            put_entries(&entries, page);
+        }
+        Err(refusal) => {
+            page.refused(refusal);
+            put_entries(&Entries::NONE, page);
+        }
     }
-    put_entries(&stepped.entries, page);
     Ok(())
 }
 
@@ -44,16 +47,15 @@ pub(crate) fn step(
 fn put_entries(entries: &Entries, page: &mut Page) {
     write!(page, " {}", entries.count);
     for (place, entry) in entries.at.iter().enumerate() {
-        put_entry(entry, place, page);
+        if *entry != Entry::BLANK {
+            put_entry(entry, place, page);
+        }
     }
 }
 
-// Puts an entry that is not blank.
+// Puts an entry in its place.
 fn put_entry(entry: &Entry, place: usize, page: &mut Page) {
     let kind = entries::kind_of(entry.told);
-    if entry.transaction == 0 && entry.filed.is_blank() && kind == 20 {
-        return;
-    }
     write!(page, " {place}={kind}:{}", entry.transaction);
     filed::put(page, ':', entry.filed);
     entries::put_told(entry.told, kind, page, ':');
