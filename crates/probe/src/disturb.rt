@@ -21,7 +21,8 @@ pub(crate) fn set(register: &mut Register, payload: &[u8], page: &mut Page) -> R
     Ok(())
 }
 
-// Sets a field, if there is such a field and it takes the value. The numbers stay numbers: each names its field in one arm, and a value that it takes stands beside it.
+// Sets a field, if there is such a field and it takes the value.
+// Fields stay numbers: an enum would be a second table, and here each number stands beside the field that it sets and the values that the field takes.
 fn set_field(account: &mut Account, field: u8, place: usize, value: u32) -> Result<(), Unknown> {
     match (field, value) {
         (0, 0) => account.state.life = Life::New,

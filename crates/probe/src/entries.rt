@@ -29,11 +29,8 @@ pub(crate) fn line(payload: &[u8], page: &mut Page) {
     let mut buffer = page::FILLED;
     match text::write_line(found, &mut buffer) {
         Ok(length) => {
-            for byte in buffer
-                .iter()
-                .take(length)
-                .take_while(|byte| **byte != b'\n')
-            {
+            let written = buffer.iter().take(length);
+            for byte in written.take_while(|byte| **byte != b'\n') {
                 page.put(*byte);
             }
         }

@@ -5,15 +5,15 @@ mod calls;
 mod disturb;
 mod entries;
 mod filed;
+mod frames;
 mod messages;
 mod page;
 mod runs;
 mod show;
 mod steps;
 
-ghost use Rattle.std.specs.Prelude.{◌<◌, length, MatchOption, ⊤};
-
 use account::Account;
+use frames::{Frame, Frames};
 use page::Page;
 use register::Register;
 
@@ -23,14 +23,6 @@ const LONGEST: usize = text::LONGEST_INPUT;
 // A frame that is not listed, or whose payload does not fit: nothing was called, changed or put.
 #[derive(Drop)]
 pub(crate) struct Unknown;
-
-// The frame that bytes begin with, and the bytes behind it.
-#[derive(Clone, Copy, Drop)]
-struct Frame<'a> {
-    code: u8,
-    payload: &'a [u8],
-    rest: &'a [u8],
-}
 
 // Reads one byte more than the longest input, to see whether there is one.
 fn main() {
@@ -51,47 +43,23 @@ fn drive(input: &[u8]) {
     page.send();
 }
 
-// Puts a line for each frame, from a fresh register on, and the last line, with the number of lines for frames. A torn frame is the last.
+// Puts a line for each frame, from a fresh register on, and the last line, with the number of the others.
 fn lines(input: &[u8], page: &mut Page) {
     let mut register = Register::fresh();
-    let mut rest = input;
-    let mut count: usize = 0;
-    while !rest.is_empty() {
-        count += 1;
-        let Some(frame) = first_frame(rest) else {
-            writeln!(page, "torn");
-            break;
-        };
-        match answer(&mut register, frame.code, frame.payload, page) {
-            Ok(()) => writeln!(page, ""),
-            Err(Unknown) => writeln!(page, "unknown"),
+    for frame in Frames(input) {
+        match frame.map(|frame| answer(&mut register, frame, page)) {
+            Some(Ok(())) => writeln!(page, ""),
+            Some(Err(Unknown)) => writeln!(page, "unknown"),
+            None => writeln!(page, "torn"),
         }
-        rest = frame.rest;
     }
-    writeln!(page, "end {count}");
-}
-
-// Splits a frame off: its code, the length of its payload, and the payload; nothing where it is torn.
-fn first_frame(bytes: &[u8]) -> Option<Frame<'_>>
-    ensures { MatchOption result ⊤ (λ frame. length frame.rest.now < length bytes.now) }
-{
-    let ([code, high, low], behind) = bytes.split_first_chunk::<3>()?;
-    let (payload, rest) = behind.split_at_checked(u16::from_be_bytes([*high, *low]) as usize)?;
-    Some(Frame {
-        code: *code,
-        payload,
-        rest,
-    })
+    writeln!(page, "end {}", Frames(input).count());
 }
 
 // Answers a frame, and puts what it has to say.
-fn answer(
-    register: &mut Register,
-    code: u8,
-    payload: &[u8],
-    page: &mut Page,
-) -> Result<(), Unknown> {
-    match code {
+fn answer(register: &mut Register, frame: Frame<'_>, page: &mut Page) -> Result<(), Unknown> {
+    let payload = frame.payload;
+    match frame.code {
         1 => calls::call(register, payload, page)?,
         2 => calls::outcome(register, payload, page)?,
         3 => messages::read(payload, page),

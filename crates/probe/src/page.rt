@@ -112,7 +112,8 @@ impl Page {
     // Puts whether every byte that is not the call's is as it was at first.
     pub(crate) fn kept(&mut self, others: &[u8]) {
         let kept = others.iter().all(|byte| *byte == FILL);
-        write!(self, "{}", if kept { " kept" } else { " spoilt" });
+        let told = if kept { "kept" } else { "spoilt" };
+        write!(self, " {told}");
     }
 }
 
