@@ -5,6 +5,7 @@ ghost use Rattle.entry.specs.Bytes.{bytes_of_entry, length_of_told, wholes_of};
 ghost use Rattle.entry.specs.Answers.{write_of};
 
 use crate::kinds;
+use crate::kinds::Kind;
 use filing::Entry;
 use refusal::Refusal;
 
@@ -35,7 +36,7 @@ fn has_room(entries: &[Entry], length: usize) -> bool
     }
     let mut left = length;
     for entry in entries {
-        let Some(rest) = left.checked_sub(told_length(*entry)) else {
+        let Some(rest) = left.checked_sub(length_of(*entry)) else {
             return false;
         };
         left = rest;
@@ -44,10 +45,10 @@ fn has_room(entries: &[Entry], length: usize) -> bool
 }
 
 // The whole length of an entry.
-fn told_length(entry: Entry) -> usize
+fn length_of(entry: Entry) -> usize
     ensures { result ≡ length_of_told entry.told }
 {
-    kinds::shape_of(kinds::told_kind(entry.told)).whole
+    Kind::from(entry.told).shape().whole
 }
 
 // Stores an entry from `at` on, and answers its whole length.
@@ -55,7 +56,7 @@ fn put_entry(buffer: &mut [u8], at: usize, account: u16, entry: Entry) -> usize
     ensures length { result ≡ length_of_told entry.told }
     ensures bytes { buffer.new ≡ sets buffer.old at (bytes_of_entry account entry) }
 {
-    let shape = kinds::shape_of(kinds::told_kind(entry.told));
+    let shape = Kind::from(entry.told).shape();
     layout::put_numbers(buffer, at, shape.widths, kinds::numbers_of(entry, account));
     shape.whole
 }
