@@ -2,7 +2,7 @@
 -- Assumes nothing.
 use Prim.Native.Nat.{ℕ, ◌≤◌, ◌<◌}
 use native.Mathlib.Omega.{arith}
-use mathlib.Core.Path.{◌≡◌, refl, ap}
+use mathlib.Core.Path.{◌≡◌, refl}
 use mathlib.Core.List.{List}
 use borrow.Author.Tests.{lt-ltb, le-ltb}
 use lib.ListN.{length}
@@ -15,7 +15,7 @@ use Rattle.filing.specs.declared.Entries.{Entries}
 use Rattle.refusal.specs.declared.Refusal.{Refusal}
 use Rattle.refusal.specs.declared.Refusal.TheVariants.{NoRoom}
 use Rattle.account.specs.declared.Account.{Account}
-use Rattle.account.specs.Steps.{Stepped, entries_in, step_by}
+use Rattle.account.specs.Steps.{Stepped, step_by}
 use Rattle.layout.specs.Fields.{last_account}
 use Rattle.layout.specs.Writes.{wrote_over}
 use Rattle.message.specs.declared.Message.{Message}

@@ -2,24 +2,19 @@
 -- Assumes nothing.
 use Prim.Native.Nat.{ℕ, max}
 use native.Mathlib.Omega.{arith}
-use mathlib.Core.Path.{◌≡◌, refl, ap, sym, ◌∙◌}
-use mathlib.Core.Bool.{Bool, true, false, false≢true}
+use mathlib.Core.Path.{◌≡◌, ap, sym, ◌∙◌}
+use mathlib.Core.Bool.{true}
 use mathlib.Core.List.{List}
 use Rattle.rule.specs.Rule as rule
-use Rattle.rule.specs.Call as Rule-Call
-use Rattle.rule.proofs.InOrder.{call-order}
 use Rattle.events.specs.declared.Event.{Event}
 use Rattle.events.specs.declared.State.{State}
 use Rattle.filing.specs.declared.Filed.{Filed}
 use Rattle.std.specs.Prelude.{Ok}
 use Rattle.filing.specs.declared.Entries.{Entries}
 use Rattle.account.specs.declared.Account.{Account}
-use Rattle.account.specs.Places.{lists_of}
 use Rattle.account.specs.InOrder.{in_order_by}
-use Rattle.account.specs.Steps.{Stepped, stepped_by, step_by}
-use Rattle.account.proofs.Kept.{order-lists, step-order}
-use Rattle.message.specs.declared.Message.{Message}
-use Rattle.message.specs.Bytes.{heading_of}
+use Rattle.account.specs.Steps.{Stepped, step_by}
+use Rattle.account.proofs.Kept.{step-order}
 use Rattle.image.specs.Words.{stored_in, stored_to}
 use Rattle.image.specs.Reading.{account_from}
 use Rattle.image.specs.Images.{Kept}

@@ -27,11 +27,14 @@ pub fn nacozteya_outlook(image: &[u32], account: u16, number: u32, state: &mut [
     match question::outlook_image(image, account, number) {
         Err(refusal) => refusal.number() as u64,
         Ok(told) => {
-            put(state, &[
-                image::life_word(told.state.life),
-                told.state.balance,
-                told.applied,
-            ]);
+            put(
+                state,
+                &[
+                    image::life_word(told.state.life),
+                    told.state.balance,
+                    told.applied,
+                ],
+            );
             0
         }
     }

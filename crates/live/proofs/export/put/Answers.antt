@@ -1,6 +1,6 @@
 -- As many values as there are places are stored; of the others each lies past the end.
 -- Assumes nothing.
-use Rattle.std.proofs.Common.{ℕ, ◌+◌, ◌≤◌, ◌≡◌, Bool, true, false, List, ◌++◌, length, take, drop, leb, refl, ap, sym, ◌∙◌, leb-true, leb-false, drop_of_length-le, arith}
+use Rattle.std.proofs.Common.{ℕ, ◌≤◌, ◌≡◌, Bool, true, false, List, ◌++◌, length, take, drop, leb, refl, ap, sym, ◌∙◌, leb-true, leb-false, drop_of_length-le, arith}
 use native.Mathlib.Nat.{zero-add}
 use Prim.Native.Nat.{min}
 use Rattle.std.proofs.lemmas.List.{length-take-le, take-append-drop}

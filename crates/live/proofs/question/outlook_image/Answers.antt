@@ -1,9 +1,8 @@
 -- 3, or the account that its words are.
 -- Assumes nothing.
-use Rattle.std.proofs.Common.{refl, ap, ◌∙◌, arith}
+use Rattle.std.proofs.Common.{refl, arith}
 use borrow.Author.Tests.{lt-ltb, le-ltb}
 use Rattle.layout.specs.Fields.{last_account}
-use Rattle.image.specs.Reading.{account_from}
 use Rattle.register.specs.Register.{asked_by}
 use Rattle.live.specs.Live.{look_by}
 use Rattle.live.proofs.Standing.{account-of-image}
