@@ -1,3 +1,4 @@
+pub mod KindNumbers
 pub mod Lengths
 pub mod Shapes
 pub mod Reader

@@ -3,10 +3,11 @@
 use Prim.Native.Nat.{ℕ, ◌≤◌, ◌<◌}
 use native.Mathlib.Omega.{arith}
 use mathlib.Core.Path.{◌≡◌, refl, sym, ◌∙◌}
-use mathlib.Core.List.{List, map}
+use mathlib.Core.List.{List, [], ◌∷◌, map}
 use borrow.Author.Tests.{eq-eqb, ne_eqb}
 use lib.ListN.{length, get_or}
-use Rattle.std.specs.Prelude.{Ok, Err}
+use Rattle.std.specs.Prelude.{Ok, Err, Some, slice_get}
+use Rattle.refusal.specs.declared.Refusal.{Refusal}
 use Rattle.refusal.specs.declared.Refusal.TheVariants.{Torn, UnknownKind, UnknownAccount}
 use Rattle.layout.specs.declared.Shape.{Shape}
 use Rattle.layout.specs.Number.{number_at}
@@ -14,11 +15,16 @@ use Rattle.layout.specs.Fields.{KindRow, row_of_kind, whole_of, then_of, widths_
 use Rattle.layout.specs.Shapes.{bytes_in, shape_of}
 use Rattle.events.specs.Kinds.{event_of}
 use Rattle.layout.proofs.Tables.{Each, present, unknown}
+use Rattle.layout.proofs.Numbers.{number_at-one}
+use Rattle.layout.proofs.Shapes.{shape-whole}
 use Rattle.layout.proofs.Heading.{filed_at}
-use Rattle.layout.proofs.Reading.{short_row, elsewhere-row, taken-row, shape-unknown, shape-short, row_at, shape-elsewhere, shape-taken}
+use Rattle.layout.proofs.Reading.{short_row, elsewhere-row, taken-row, shape-short, row_at, shape-elsewhere, shape-taken}
 use Rattle.message.specs.declared.Heading.{Heading}
 use Rattle.message.specs.Bytes.{messages, message_by, heading_from}
 use Rattle.message.specs.Answers.{message_reader, read_of, read_kind}
+use Rattle.message.specs.declared.kinds.Kind.{Kind}
+use Rattle.message.specs.Kinds.{number_in, kind_numbered}
+use Rattle.message.proofs.KindNumbers.{number-known, number_unknown, kind-long}
 use Rattle.message.proofs.Shapes.{rows-hold}
 
 -- the heading that the bytes hold
@@ -71,23 +77,34 @@ module _ (bytes : List ℕ) (kind whole : ℕ) (nonempty : length bytes ≡ 0 �
         ∙ taken-row message_reader found bytes (numbers_at (widths_of found) bytes 0) positive (rw w at h) refl a
         ∙ rw (← k, amount-read kind (heading_at bytes) bytes positive, w)
 
--- by the shape and the numbers that the code reads
-module _ {kind : ℕ} {shape : Shape} (bytes : List ℕ) (nonempty : length bytes ≡ 0 → ⊥) (k : kind ≡ number_at bytes 0 1)
-    (s : shape ≡ shape_of (row_of_kind messages kind)) where
-  pub code-unknown : shape.whole ≡ 0 → read_of bytes ≡ Err UnknownKind
-  code-unknown z = rest bytes kind nonempty k ∙ shape-unknown messages kind bytes s message_reader every-length z
+-- the byte that there is
+first-there : (bytes : List ℕ) {first : ℕ} → Some first ≡ slice_get bytes 0 → (length bytes ≡ 0 → ⊥) × (first ≡ number_at bytes 0 1)
+first-there [] e = cc
+first-there (byte ∷ bytes) {first = first} e = let same : first ≡ byte = cc in ((λ z. omega arith), same ∙ sym (number_at-one 0 (byte ∷ bytes)))
 
-  pub code-short : length bytes < shape.whole → read_of bytes ≡ Err Torn
-  code-short h = rest bytes kind nonempty k ∙ shape-short messages kind bytes s message_reader h
+-- by the first byte, the kind, the shape and the numbers that the code reads
+module _ (bytes : List ℕ) {first : ℕ} (f : Some first ≡ slice_get bytes 0) where
+  pub code-unknown : {r : Refusal} → Err r ≡ kind_numbered first → read_of bytes ≡ Err r
+  code-unknown {r = r} e = let u = number_unknown first r (sym e) in rest bytes first (first-there bytes f).0 (first-there bytes f).1 ∙ rw (u.1, u.0)
 
-  module _ (p : shape.whole ≡ 0 → ⊥) (h : shape.whole ≤ length bytes) {numbers : List ℕ} (n : numbers ≡ numbers_at (map bytes_in shape.widths) bytes 0) where
-    pub code-elsewhere : last_account < get_or numbers 2 0 → read_of bytes ≡ Err UnknownAccount
-    code-elsewhere a = rest bytes kind nonempty k ∙ shape-elsewhere messages kind bytes s p rows-hold n message_reader h a
+  module _ {kind : Kind} (k : Ok kind ≡ kind_numbered first) {shape : Shape} (s : shape ≡ shape_of (row_of_kind messages (number_in kind))) where
+    kind-read : number_in kind ≡ number_at bytes 0 1
+    kind-read = sym (number-known first kind (sym k)) ∙ (first-there bytes f).1
 
-    pub code-taken : get_or numbers 2 0 ≤ last_account → read_of bytes ≡ Ok (message_by kind (heading_from numbers) (get_or numbers 4 0), shape.whole)
-    unfolding numbers_at
-    code-taken a =
-        let at = row_at messages kind bytes s p rows-hold n in
-        rest bytes kind nonempty k
-        ∙ shape-taken messages kind bytes s p rows-hold n message_reader h a
-        ∙ rw (at 1, at 2, at 3, at 4, ← k)
+    long : shape.whole ≡ 0 → ⊥
+    long z = let p = kind-long kind in omega (arith, sym (rw s at z), shape-whole (row_of_kind messages (number_in kind)))
+
+    pub code-short : length bytes < shape.whole → read_of bytes ≡ Err Torn
+    code-short h = rest bytes (number_in kind) (first-there bytes f).0 kind-read ∙ shape-short messages (number_in kind) bytes s message_reader h
+
+    module _ (h : shape.whole ≤ length bytes) {numbers : List ℕ} (n : numbers ≡ numbers_at (map bytes_in shape.widths) bytes 0) where
+      pub code-elsewhere : last_account < get_or numbers 2 0 → read_of bytes ≡ Err UnknownAccount
+      code-elsewhere a = rest bytes (number_in kind) (first-there bytes f).0 kind-read ∙ shape-elsewhere messages (number_in kind) bytes s long rows-hold n message_reader h a
+
+      pub code-taken : get_or numbers 2 0 ≤ last_account → read_of bytes ≡ Ok (message_by (number_in kind) (heading_from numbers) (get_or numbers 4 0), shape.whole)
+      unfolding numbers_at
+      code-taken a =
+          let at = row_at messages (number_in kind) bytes s long rows-hold n in
+          rest bytes (number_in kind) (first-there bytes f).0 kind-read
+          ∙ shape-taken messages (number_in kind) bytes s long rows-hold n message_reader h a
+          ∙ rw (at 1, at 2, at 3, at 4, ← kind-read)

@@ -1,3 +1,4 @@
+pub mod Kinds
 pub mod Bytes
 pub mod Answers
 pub mod Inverse

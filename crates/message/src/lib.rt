@@ -1,15 +1,17 @@
 // A message, its reader and its writer.
 #![tactic(auto)]
 
+mod kinds;
+
 ghost use Rattle.std.specs.Prelude.{◌≡◌};
 ghost use Rattle.layout.specs.Fields.{row_of_kind, whole_of};
-ghost use Rattle.layout.specs.Shapes.{padded, shape_of};
-ghost use Rattle.message.specs.Bytes.{messages, kind_of, heading_of, amount_in, numbers_of, message_by};
+ghost use Rattle.layout.specs.Shapes.{padded};
+ghost use Rattle.message.specs.Bytes.{messages, kind_of, heading_of, amount_in, numbers_of};
 ghost use Rattle.message.specs.Answers.{read_of, write_of};
 
 use events::Event;
 use filing::Filed;
-use layout::Shape;
+use kinds::Kind;
 use refusal::Refusal;
 
 // What every message brings.
@@ -31,19 +33,13 @@ pub enum Message {
 pub fn read_message(bytes: &[u8]) -> Result<(Message, usize), Refusal>
     ensures { result ≡ read_of bytes.now }
 {
-    if bytes.len() == 0 {
-        return Err(Refusal::Torn);
-    }
-    let kind = layout::number1(bytes, 0);
-    let shape = shape_of(kind);
-    if shape.whole == 0 {
-        return Err(Refusal::UnknownKind);
-    }
+    let first = bytes.first().ok_or(Refusal::Torn)?;
+    let kind = Kind::try_from(*first)?;
+    let shape = kind.shape();
     if bytes.len() < shape.whole {
         return Err(Refusal::Torn);
     }
-    let widths = shape.widths;
-    let numbers = layout::read_numbers(bytes, widths);
+    let numbers = layout::read_numbers(bytes, shape.widths);
     if numbers[2] > layout::LAST_ACCOUNT as u32 {
         return Err(Refusal::UnknownAccount);
     }
@@ -52,7 +48,7 @@ pub fn read_message(bytes: &[u8]) -> Result<(Message, usize), Refusal>
         account: numbers[2] as u16,
         filed: layout::filed_from(numbers),
     };
-    Ok((message_of(kind, heading, numbers[4]), shape.whole))
+    Ok((kind.message(heading, numbers[4]), shape.whole))
 }
 
 // Writes a message to the beginning of a buffer.
@@ -60,16 +56,14 @@ pub fn write_message(message: Message, buffer: &mut [u8]) -> Result<usize, Refus
     ensures answer { result ≡ (write_of message buffer.old).answer }
     ensures buffer { buffer.new ≡ (write_of message buffer.old).buffer }
 {
-    let heading = heading_of(message);
-    if layout::LAST_ACCOUNT < heading.account {
+    if layout::LAST_ACCOUNT < message.heading().account {
         return Err(Refusal::UnknownAccount);
     }
-    let shape = shape_of(kind_of(message));
+    let shape = kinds::shape_of(message.kind());
     if buffer.len() < shape.whole {
         return Err(Refusal::NoRoom);
     }
-    let widths = shape.widths;
-    layout::put_numbers(buffer, 0, widths, numbers_of(message));
+    layout::put_numbers(buffer, 0, shape.widths, message.numbers());
     Ok(shape.whole)
 }
 
@@ -77,98 +71,59 @@ pub fn write_message(message: Message, buffer: &mut [u8]) -> Result<usize, Refus
 pub fn whole_length(kind: u8) -> usize
     ensures { result ≡ whole_of (row_of_kind messages kind) }
 {
-    let shape = shape_of(kind);
-    shape.whole
-}
-
-// The table of kinds: the heading, and the amount where there is one.
-fn shape_of(kind: u8) -> Shape
-    ensures { result ≡ shape_of (row_of_kind messages kind) }
-{
-    match kind {
-        1 => WITH_AMOUNT,
-        2 => WITH_AMOUNT,
-        3 => WITH_AMOUNT,
-        4 => HEADING_ALONE,
-        5 => HEADING_ALONE,
-        6 => HEADING_ALONE,
-        _ => Shape::NONE,
-    }
-}
-
-const WITH_AMOUNT: Shape = Shape {
-    widths: [1, 4, 2, 4, 4, 0, 0, 0, 0, 0],
-    whole: 15,
-};
-
-const HEADING_ALONE: Shape = Shape {
-    widths: [1, 4, 2, 4, 0, 0, 0, 0, 0, 0],
-    whole: 11,
-};
-
-// The message of a kind 1 to 6.
-fn message_of(kind: u8, heading: Heading, amount: u32) -> Message
-    ensures { result ≡ message_by kind heading amount }
-{
-    match kind {
-        5 => Message::Commit(heading),
-        6 => Message::Abort(heading),
-        _ => Message::Request(heading, Event::of(kind, amount)),
-    }
-}
-
-// The kind of a message.
-fn kind_of(message: Message) -> u8
-    ensures { result ≡ kind_of message }
-{
-    match message {
-        Message::Request(_, event) => event.kind(),
-        Message::Commit(_) => 5,
-        Message::Abort(_) => 6,
-    }
+    kinds::shape_of(kind).whole
 }
 
 // The number of the account that a message names.
 pub fn account_of(message: Message) -> u16
     ensures { result ≡ (heading_of message).account }
 {
-    heading_of(message).account
+    message.heading().account
 }
 
-// The heading of a message.
-fn heading_of(message: Message) -> Heading
-    ensures { result ≡ heading_of message }
-{
-    match message {
-        Message::Request(heading, _) => heading,
-        Message::Commit(heading) => heading,
-        Message::Abort(heading) => heading,
+impl Message {
+    // The kind of the message: a request has that of its event.
+    fn kind(self) -> u8
+        ensures { result ≡ kind_of self }
+    {
+        match self {
+            Message::Request(_, event) => event.kind(),
+            Message::Commit(_) => Kind::Commit.number(),
+            Message::Abort(_) => Kind::Abort.number(),
+        }
     }
-}
 
-// The amount of a message, 0 where it has none.
-fn amount_of(message: Message) -> u32
-    ensures { result ≡ amount_in message }
-{
-    match message {
-        Message::Request(_, event) => event.amount(),
-        Message::Commit(_) => 0,
-        Message::Abort(_) => 0,
+    fn heading(self) -> Heading
+        ensures { result ≡ heading_of self }
+    {
+        match self {
+            Message::Request(heading, _) | Message::Commit(heading) | Message::Abort(heading) =>
+                heading,
+        }
     }
-}
 
-// The row of numbers of a message.
-fn numbers_of(message: Message) -> [u32; layout::FIELDS]
-    ensures { result ≡ padded (numbers_of message) }
-{
-    let heading = heading_of(message);
-    let filed = heading.filed;
-    let mut numbers = layout::heading_numbers(
-        kind_of(message),
-        heading.transaction,
-        heading.account,
-        filed,
-    );
-    numbers[4] = amount_of(message);
-    numbers
+    // The amount of the message, 0 where it has none.
+    fn amount(self) -> u32
+        ensures { result ≡ amount_in self }
+    {
+        match self {
+            Message::Request(_, event) => event.amount(),
+            Message::Commit(_) | Message::Abort(_) => 0,
+        }
+    }
+
+    // The row of numbers of the message.
+    fn numbers(self) -> [u32; layout::FIELDS]
+        ensures { result ≡ padded (numbers_of self) }
+    {
+        let heading = self.heading();
+        let mut numbers = layout::heading_numbers(
+            self.kind(),
+            heading.transaction,
+            heading.account,
+            heading.filed,
+        );
+        numbers[4] = self.amount();
+        numbers
+    }
 }
