@@ -64,7 +64,7 @@ stored-behind bytes l at h =
     rw (mid, behind, append-nil, sets-eq bytes (drop at l) 0 fits, sets-eq bytes l at h, zero-add, drop-drop, append_assoc (take at l) bytes (drop (at + length bytes) l))
 
 -- no entry has more than 40 bytes
-pub short-told : (told : Told) → length_of_told told ≤ 40
+short-told : (told : Told) → length_of_told told ≤ 40
 unfolding length_of_told entry_rows
 short-told told = longest 40 entry_rows (kind_of told) (omega arith)
 
