@@ -84,7 +84,7 @@ impl Register {
 }
 
 // The step of an account that a message asks.
-fn step(account: &mut Account, message: Message) -> Result<Entries, Refusal>
+pub fn step(account: &mut Account, message: Message) -> Result<Entries, Refusal>
     ensures answer { result ≡ (step_of account.old (rule_message message)).answer }
     ensures account { account.new ≡ (step_of account.old (rule_message message)).account }
 {
