@@ -3,19 +3,15 @@
 use Rattle.text.specs.Quoted.{quoted}
 use Rattle.text.proofs.Pieces.{begins, begins-long}
 use Rattle.text.proofs.program.begin.Goals as goal
-
-pub returns-then-input-gt-LONGEST_INPUT : goal.returns-then-input-gt-LONGEST_INPUT
-unfolding quoted
-returns-then-input-gt-LONGEST_INPUT c =
-    let a = c.args in
-    let first = c.put_letters-first in
-    let second = c.put_letters-written in
-    begins-long a.input.now a.out.now first.new.buffer c.fresh.result c.fresh.ensures first.result first.ensures
-    second.new.buffer second.result c.if-input-gt-LONGEST_INPUT.true second.ensures
+use Rattle.text.proofs.program.begin.Goals.{then-input-gt-LONGEST_INPUT, else-input-gt-LONGEST_INPUT}
 
 pub returns : goal.returns
 unfolding quoted
 returns c =
     let a = c.args in
-    let first = c.put_letters-first in
-    begins a.input.now a.out.now first.new.buffer c.fresh-2.result c.fresh-2.ensures first.result first.ensures c.if-input-gt-LONGEST_INPUT.false
+    elim c.if-input-gt-LONGEST_INPUT.branch [
+      then-input-gt-LONGEST_INPUT w ↦
+        rw w.from-is (begins-long a.input.now a.out.now c.store.new.buffer c.fresh.result c.fresh.ensures w.if-input-gt-LONGEST_INPUT.true (rw w.from-is at c.store.ensures))
+      | else-input-gt-LONGEST_INPUT w ↦
+        rw w.from-is (begins a.input.now a.out.now c.store.new.buffer c.fresh.result c.fresh.ensures w.if-input-gt-LONGEST_INPUT.false (rw w.from-is at c.store.ensures))
+    ]
