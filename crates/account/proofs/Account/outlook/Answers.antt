@@ -13,8 +13,8 @@ use Rattle.account.proofs.Account.outlook.Goals as goal
 pub returns-then-not-in_order : goal.returns-then-not-in_order
 returns-then-not-in_order c = outlook-order _ c.args.self.now c.args.number (sym c.in_order.ensures ∙ c.if-not-in_order.true)
 
-pub shared_ref_as_front-slot-items : goal.shared_ref_as_front-slot-items
-shared_ref_as_front-slot-items c =
+pub slice_bounds-events-end : goal.slice_bounds-events-end
+slice_bounds-events-end c =
     let few = (clauses panel c.args.self.now (sym c.in_order.ensures ∙ c.if-not-in_order.false)).progressing in
     omega arith
 
