@@ -15,7 +15,7 @@ pub(crate) fn read(payload: &[u8], page: &mut Page) {
     }
 }
 
-// Puts a message's kind, its heading and its amount.
+// Puts a message's kind, its heading and its amount, which the crate `message` tells in bytes only.
 fn put_message(message: Message, page: &mut Page) {
     let (kind, heading, amount) = match message {
         Message::Request(heading, event) => (event.kind(), heading, event.amount()),
@@ -61,7 +61,7 @@ pub(crate) fn write(payload: &[u8], page: &mut Page) -> Result<(), Unknown> {
     Ok(())
 }
 
-// The message of a kind 1 to 6.
+// The message of a kind 1 to 6; the crate `message` makes one from bytes only, so the kinds stand here by their numbers.
 pub(crate) fn message_of(kind: u8, heading: Heading, amount: u32) -> Result<Message, Unknown> {
     match kind {
         1..=4 => Ok(Message::Request(heading, Event::of(kind, amount))),

@@ -9,7 +9,7 @@ use std::fmt::{Display, Write};
 
 const WHOLE_PAGE: usize = 4_096;
 
-// What is not yet written of the text: so many bytes at the beginning.
+// What is not yet written of the text: so many bytes at the beginning, since memory is fixed.
 #[derive(Drop)]
 pub(crate) struct Page {
     text: [u8; WHOLE_PAGE],
