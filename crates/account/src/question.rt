@@ -28,7 +28,7 @@ impl Account {
             state: self.state,
             left: number,
         };
-        let events = &self.progress[..self.progressing];
+        let (events, _) = self.progress.split_at(self.progressing);
         for slot in events {
             reached = reached.past(*slot);
         }
