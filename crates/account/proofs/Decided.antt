@@ -16,6 +16,7 @@ use Rattle.events.specs.declared.State.{State}
 use Rattle.events.specs.Events.{reason_byte, reason_from}
 use Rattle.events.specs.Range.{range_of, every_in, some_in}
 use Rattle.events.proofs.Answers.{outcomes-every, outcomes-some}
+use Rattle.filing.specs.declared.Slot.{Slot}
 use Rattle.filing.specs.declared.Verdict.{Verdict}
 use Rattle.filing.specs.declared.Verdict.TheVariants.{Accepted, Rejected, Held}
 use Rattle.filing.specs.declared.Weighing.{Weighing}
@@ -80,6 +81,6 @@ module _ (R : rule.Rule State Event ℕ) (e : Event) (n : ℕ) (o : Outcomes) wh
   decided-first [] w h d = d
   decided-first (x ∷ requests) w h d = absurd (omega arith)
 
-  -- whether it is held is then what the rule decides
-  pub decided-stays : (w : Weighing) → DecidesBy R [] e n o w → StaysHeldBy R e n o (is_held w.verdict)
-  decided-stays w d = λ s xs k g q. held_same w.verdict ∙ ap (λ (v : rule.Weighing). stays_held v.verdict) (d.decided s xs k g q)
+  -- whether the oldest of those held stays is then what the rule decides
+  pub decided-stays : (oldest : Slot) (rest : List Slot) → oldest.event ≡ e → (w : Weighing) → DecidesBy R [] e n o w → StaysHeldBy R (oldest ∷ rest) n o (is_held w.verdict)
+  decided-stays oldest rest is w d = λ s xs k g q. rw is (held_same w.verdict ∙ ap (λ (v : rule.Weighing). stays_held v.verdict) (d.decided s xs k g q))

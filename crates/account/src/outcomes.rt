@@ -1,13 +1,12 @@
 // What is known of the outcomes of the events in progress, and the weighing of a request by it (docs/REGISTER.md, 4).
-ghost use Rattle.std.specs.Prelude.{◌≡◌, List, [], ◌∷◌, ◌++◌, length, ℕ, ◌≤◌};
+ghost use Rattle.std.specs.Prelude.{◌≡◌, List, [], ◌∷◌, ◌++◌, length, map, ℕ, ◌≤◌};
 ghost use Rattle.rule.specs.Rule.{slot};
 ghost use Rattle.rule.specs.Weigh.{reason_by};
 ghost use Rattle.events.specs.declared.State.{State};
 ghost use Rattle.events.specs.Events.{reason_of, reason_byte};
 ghost use Rattle.filing.specs.declared.Filed.{Filed};
-ghost use Rattle.filing.specs.Slots.{RuleSlot, places, decision_of};
+ghost use Rattle.filing.specs.Slots.{RuleSlot, places, decision_of, slot_of};
 ghost use Rattle.filing.specs.Entries.{verdict_of};
-ghost use Rattle.account.specs.Places.{used};
 ghost use Rattle.account.specs.inside.Known.{verdict_by};
 ghost use Rattle.account.specs.inside.First.{Knows, Decides, StaysHeld};
 
@@ -36,6 +35,18 @@ impl Outcomes {
             first: s,
             guarded: true,
         }
+    }
+
+    // The outcomes of these events in progress, an event at a time.
+    pub(crate) fn after(s: State, events: &[Slot]) -> Outcomes
+        requires { length events.now ≤ places }
+        ensures { Knows s (map slot_of events.now) result }
+    {
+        let mut outcomes = Outcomes::of(s);
+        for slot in events {
+            outcomes = outcomes.with(slot.event, slot.decision);
+        }
+        outcomes
     }
 
     // The outcomes with one event more in progress, the newest. Its guard is asked on each way, next to what it does to the range: the compiler takes the event apart once for both.
@@ -99,33 +110,14 @@ impl Outcomes {
         self.decide(progressing, event)
     }
 
-    // Whether a request with nothing held before it is held.
-    pub(crate) fn stays_held(self, progressing: usize, event: Event) -> bool
-        ensures { StaysHeld event progressing self result }
+    // Whether the oldest request held, if there is one, stays held (6.7).
+    pub(crate) fn oldest_stays_held(self, progressing: usize, requests: &[Slot]) -> bool
+        ensures { StaysHeld requests.now progressing self result }
     {
-        let weighing = self.decide(progressing, event);
-        let verdict = weighing.verdict;
-        verdict.is_held()
-    }
-}
-
-impl Account {
-    // What is known of the outcomes of the events in progress, an event at a time.
-    pub(crate) fn outcomes(&self) -> Outcomes
-        requires { self.now.progressing ≤ places }
-        ensures { Knows self.now.state (used self.now.progress self.now.progressing) result }
-    {
-        let state = self.state;
-        let mut outcomes = Outcomes::of(state);
-        let mut at = 0;
-        while at < self.progressing {
-            let slot = self.progress[at];
-            let event = slot.event;
-            let decision = slot.decision;
-            outcomes = outcomes.with(event, decision);
-            at += 1;
+        match requests {
+            [oldest, ..] => self.decide(progressing, oldest.event).verdict.is_held(),
+            [] => true,
         }
-        outcomes
     }
 }
 

@@ -173,7 +173,7 @@ pub(crate) fn numbers_of(entry: Entry, account: u16) -> [u32; layout::FIELDS]
     numbers
 }
 
-// What follows the heading, 0 where there is no such number.
+// What follows the heading, 0 where there is no such number, as the row of numbers has it.
 fn then_of(told: Told) -> Then
     ensures { result ≡ then_in told }
 {

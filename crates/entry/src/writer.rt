@@ -1,5 +1,5 @@
 // The writer of entries.
-ghost use Rattle.std.specs.Prelude.{◌≡◌, ◌≤◌, leb};
+ghost use Rattle.std.specs.Prelude.{◌≡◌, ◌≤◌, ◌↔◌, IsTrue};
 ghost use Rattle.std.proofs.lemmas.List.Edits.{sets};
 ghost use Rattle.entry.specs.Bytes.{bytes_of_entry, length_of_told, wholes_of};
 ghost use Rattle.entry.specs.Answers.{write_of};
@@ -19,7 +19,7 @@ pub fn write_entries(entries: &[Entry], account: u16, buffer: &mut [u8]) -> Resu
     }
     let mut at = 0;
     for entry in entries {
-        at += put_entry(buffer, at, account, *entry);
+        at += put_entry(&mut buffer[at..], account, *entry);
     }
     Ok(at)
 }
@@ -29,7 +29,7 @@ const LONGEST_ENTRY: usize = 4 * layout::FIELDS;
 
 // Whether a buffer of that length has room for the entries; they are measured only where it has none for the longest of each.
 fn has_room(entries: &[Entry], length: usize) -> bool
-    ensures { result ≡ leb (wholes_of entries.now) length }
+    ensures { IsTrue result ↔ (wholes_of entries.now ≤ length) }
 {
     if entries.len() <= length / LONGEST_ENTRY {
         return true;
@@ -51,12 +51,13 @@ fn length_of(entry: Entry) -> usize
     Kind::from(entry.told).shape().whole
 }
 
-// Stores an entry from `at` on, and answers its whole length.
-fn put_entry(buffer: &mut [u8], at: usize, account: u16, entry: Entry) -> usize
+// Stores an entry at the beginning of a buffer, and answers its whole length.
+fn put_entry(buffer: &mut [u8], account: u16, entry: Entry) -> usize
     ensures length { result ≡ length_of_told entry.told }
-    ensures bytes { buffer.new ≡ sets buffer.old at (bytes_of_entry account entry) }
+    ensures bytes { buffer.new ≡ sets buffer.old 0 (bytes_of_entry account entry) }
 {
     let shape = Kind::from(entry.told).shape();
-    layout::put_numbers(buffer, at, shape.widths, kinds::numbers_of(entry, account));
+    let numbers = kinds::numbers_of(entry, account);
+    layout::put_numbers(buffer, 0, shape.widths, numbers);
     shape.whole
 }

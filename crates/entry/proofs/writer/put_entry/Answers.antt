@@ -11,4 +11,4 @@ unfolding length_of_told
 returns-clause-length c = rw (c.shape-shape.ensures, c.from.ensures) (shape-whole (row_of_kind entry_rows (kind_of c.args.entry.told)))
 
 pub returns-clause-bytes : goal.returns-clause-bytes
-returns-clause-bytes c = rw (c.numbers_of.ensures, c.shape-shape.ensures, c.from.ensures, row-bytes c.args.account c.args.entry) at c.put_numbers.ensures
+returns-clause-bytes c = rw (c.numbers_of-numbers.ensures, c.shape-shape.ensures, c.from.ensures, row-bytes c.args.account c.args.entry) at c.put_numbers.ensures
