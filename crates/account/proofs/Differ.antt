@@ -1,63 +1,115 @@
--- Whether numbers all differ, from a place on: the number there against those behind it, then those behind it among each other.
+-- Whether numbers all differ: those that rise do; and the transactions of two rows, one after the other, differ exactly if those of their slots are apart.
 -- Assumes nothing.
-use Prim.Native.Nat.{ℕ, ◌+◌, ◌<◌, ◌≤◌}
-use mathlib.Core.Path.{◌≡◌, sym, ap, ◌∙◌}
-use mathlib.Core.Bool.{Bool, true, false}
-use mathlib.Core.List.{List, [], ◌∷◌}
+use Prim.Native.Nat.{ℕ, suc, ◌+◌, ◌<◌, ◌≤◌}
+use mathlib.Core.Path.{◌≡◌, refl, sym, ap, ap₂, ◌∙◌}
+use mathlib.Core.Bool.{Bool, true, false, not, ◌&&◌, ◌||◌}
+use mathlib.Core.List.{List, [], ◌∷◌, ◌++◌, map, append_assoc}
 use native.Mathlib.Omega.{arith}
 use native.Mathlib.Numerals.{add-one}
 use lib.Dec.{eqb}
-use lib.ListN.{length, get_or, take, length-take, drop_of_length-le}
-use lib.Seq.{slice, slice-cons}
-use borrow.Author.Tests.{ne_eqb}
+use lib.ListN.{length, get_or, take, drop, set, length-set, drop_of_length-le}
+use lib.Seq.{take-suc-set, drop-cons}
+use borrow.Author.Tests.{eqb-true, eqb-false, eq-eqb, ne_eqb}
+use Rattle.std.proofs.lemmas.List.{take_all}
+use Rattle.std.specs.List.{list_any}
+use Rattle.std.specs.List.Sorted.{IsStrictlyIncreasing}
 use Rattle.rule.specs.Lists.{some_of}
-use Rattle.account.specs.inside.Judged.{all_differ}
+use Rattle.rule.specs.InOrder.{apart}
+use Rattle.rule.specs.Step.{named}
+use Rattle.rule.proofs.Lists.{map-append}
+use Rattle.filing.specs.declared.Slot.{Slot}
+use Rattle.filing.specs.Slots.{slot_of, blank}
+use Rattle.account.specs.inside.Judged.{both_rows, all_differ}
+use Rattle.account.proofs.Places.{take_more}
 
-module _ (numbers : List ℕ) (count at : ℕ) where
-  -- the first numbers, so many of them, from a place on
-  abbrev pub from : List ℕ
-  from = slice at count numbers
+-- numbers that rise are above a lower one, and differ
+rising-behind : (t : ℕ) (ts : List ℕ) → IsStrictlyIncreasing (t ∷ ts) → IsStrictlyIncreasing ts
+rising-behind t ts r k h = let e : suc k + 1 ≡ suc (k + 1) = omega arith in rw e at (r (suc k) (omega arith))
 
-  pub from_end : count ≤ at → from ≡ []
-  from_end h = drop_of_length-le (take count numbers) {i = at} (omega (arith, length-take count numbers))
+none-below : (n t : ℕ) (ts : List ℕ) → n < t → IsStrictlyIncreasing (t ∷ ts) → some_of (eqb n) (t ∷ ts) ≡ false
+none-below n t [] l r = rw (ne_eqb n t (λ e. omega arith)) refl
+none-below n t (u ∷ ts) l r =
+    let next : t < u = r 0 (omega arith) in
+    rw (ne_eqb n t (λ e. omega arith)) (none-below n u ts (omega arith) (rising-behind t (u ∷ ts) r))
 
-module _ (numbers : List ℕ) (count : ℕ) (room : count ≤ length numbers) where
-  from_next : (at : ℕ) → at < count → from numbers count at ≡ get_or numbers at 0 ∷ from numbers count (at + 1)
-  from_next at h = rw (add-one, slice-cons at count numbers 0)
+pub rising-differ : (ts : List ℕ) → IsStrictlyIncreasing ts → all_differ ts ≡ true
+rising-differ [] r = refl
+rising-differ (t ∷ []) r = refl
+rising-differ (t ∷ (u ∷ ts)) r =
+    let next : t < u = r 0 (omega arith) in
+    rw (none-below t u ts next (rising-behind t (u ∷ ts) r)) (rising-differ (u ∷ ts) (rising-behind t (u ∷ ts) r))
 
-  module _ (p : ℕ → Bool) (at : ℕ) (h : at < count) where
-    pub some-there : p (get_or numbers at 0) ≡ true → some_of p (from numbers count at) ≡ true
-    some-there k = rw (from_next at h, k)
+-- a number is among others, asked in either order
+either-order : (n t : ℕ) → eqb t n ≡ eqb n t
+either-order n t = by (eqb n t) refl
+  where
+    by : (b : Bool) → eqb n t ≡ b → eqb t n ≡ b
+    by true e = eq-eqb t n (sym (eqb-true n t e))
+    by false e = ne_eqb t n (λ k. eqb-false n t e (sym k))
 
-    pub some-behind : p (get_or numbers at 0) ≡ false → some_of p (from numbers count (at + 1)) ≡ some_of p (from numbers count at)
-    some-behind k = rw (from_next at h, k)
+some-among : (n : ℕ) (ts : List ℕ) → list_any (λ (t : ℕ). eqb t n) ts ≡ some_of (eqb n) ts
+some-among n [] = refl
+some-among n (t ∷ ts) = ap₂ (λ (b c : Bool). b || c) (either-order n t) (some-among n ts)
 
-  module _ (at : ℕ) (h : at < count) where
-    pub differ-not : some_of (eqb (get_or numbers at 0)) (from numbers count (at + 1)) ≡ true → false ≡ all_differ (from numbers count at)
-    differ-not k = rw (from_next at h, k)
+-- the number at a place against those behind it, then those behind it among each other
+module _ (ts : List ℕ) (at : ℕ) (h : at < length ts) where
+  abbrev among_behind : Bool
+  among_behind = list_any (λ (t : ℕ). eqb t (get_or ts at 0)) (drop (at + 1) ts)
 
-    pub differ-behind : some_of (eqb (get_or numbers at 0)) (from numbers count (at + 1)) ≡ false → all_differ (from numbers count (at + 1)) ≡ all_differ (from numbers count at)
-    differ-behind k = rw (from_next at h, k)
+  differ-at : all_differ (drop at ts) ≡ (not among_behind && all_differ (drop (at + 1) ts))
+  differ-at =
+      ap all_differ (drop-cons ts at 0 h ∙ ap (λ (n : ℕ). get_or ts at 0 ∷ drop n ts) (sym (add-one at)))
+      ∙ ap (λ (b : Bool). not b && all_differ (drop (at + 1) ts)) (sym (some-among (get_or ts at 0) (drop (at + 1) ts)))
 
--- from a place on the numbers rise: they differ, and one that is lower than the lowest is none of them
-pub record Rising (numbers : List ℕ) (count at lowest : ℕ) : Type 0 where
-  pub within : at ≤ count
-  pub differ : all_differ (from numbers count at) ≡ true
-  pub none : (n : ℕ) → n < lowest → some_of (eqb n) (from numbers count at) ≡ false
+  pub differ-not : among_behind ≡ true → false ≡ all_differ (drop at ts)
+  differ-not k = rw (differ-at, k) refl
 
-pub rising_none : (numbers : List ℕ) (count lowest : ℕ) → Rising numbers count count lowest
-rising_none numbers count lowest =
-    let end = from_end numbers count count (omega arith) in
-    record { within = omega arith; differ = ap all_differ end; none = λ n h. ap (some_of (eqb n)) end }
+  pub differ-behind : among_behind ≡ false → all_differ (drop (at + 1) ts) ≡ all_differ (drop at ts)
+  differ-behind k = rw (differ-at, k) refl
 
-pub rising-more : (numbers : List ℕ) (count at lowest here : ℕ) → count ≤ length numbers → here + 1 ≡ at → get_or numbers here 0 < lowest → Rising numbers count at lowest
-    → Rising numbers count here (get_or numbers here 0)
-rising-more numbers count at lowest here room e less k =
-    let t = get_or numbers here 0 in
-    let h : here < count = omega (arith, k.within) in
-    let behind : from numbers count (here + 1) ≡ from numbers count at = ap (from numbers count) e in
+pub differ-end : (ts : List ℕ) (at : ℕ) → length ts ≤ at → all_differ (drop at ts) ≡ true
+differ-end ts at h = ap all_differ (drop_of_length-le ts {i = at} h)
+
+-- the transactions noted so far, those before and those of the slots of a row before this one
+abbrev pub transaction_in : Slot → ℕ
+transaction_in x = x.transaction
+
+pub record Noted (before : List ℕ) (row : List Slot) (at count : ℕ) (transactions : List ℕ) : Type 0 where
+  pub both : length transactions ≡ both_rows
+  pub noted : take count transactions ≡ before ++ map transaction_in (take at row)
+
+-- one transaction more is noted
+pub noted_more : (before : List ℕ) (row : List Slot) (at count next : ℕ) (transactions : List ℕ) → at < length row → count < both_rows → next ≡ suc count → Noted before row at count transactions
+    → Noted before row (at + 1) next (set transactions count (get_or row at blank).transaction)
+noted_more before row at count next transactions room small e k =
+    let x = get_or row at blank in
     record {
-      within = omega (arith, k.within);
-      differ = sym (differ-behind numbers count room here h (ap (some_of (eqb t)) behind ∙ k.none t less)) ∙ ap all_differ behind ∙ k.differ;
-      none = λ n lower. sym (some-behind numbers count room (eqb n) here h (ne_eqb n t (λ z. omega arith))) ∙ ap (some_of (eqb n)) behind ∙ k.none n (omega arith);
+      both = length-set transactions count x.transaction ∙ k.both;
+      noted =
+          ap (λ (n : ℕ). take n (set transactions count x.transaction)) e
+          ∙ take-suc-set transactions count x.transaction (omega (arith, k.both))
+          ∙ ap (λ (l : List ℕ). l ++ (x.transaction ∷ [])) k.noted
+          ∙ append_assoc before (map transaction_in (take at row)) (x.transaction ∷ [])
+          ∙ ap (λ (l : List ℕ). before ++ l) (sym (ap (map transaction_in) (take_more row at blank room) ∙ map-append transaction_in (take at row) (x ∷ [])));
     }
+
+-- transactions as numbers
+some-transaction : (t : ℕ) (xs : List Slot) → some_of (λ (n : ℕ). eqb t n) (map transaction_in xs) ≡ some_of (named t) (map slot_of xs)
+some-transaction t [] = refl
+some-transaction t (x ∷ xs) = ap (λ (b : Bool). eqb t x.transaction || b) (some-transaction t xs)
+
+differ-apart : (xs : List Slot) → all_differ (map transaction_in xs) ≡ apart (map slot_of xs)
+differ-apart [] = refl
+differ-apart (x ∷ xs) = ap₂ (λ (b c : Bool). not b && c) (some-transaction x.transaction xs) (differ-apart xs)
+
+lists-apart : (xs ys : List Slot) → all_differ (map transaction_in xs ++ map transaction_in ys) ≡ apart (map slot_of xs ++ map slot_of ys)
+lists-apart xs ys = ap all_differ (sym (map-append transaction_in xs ys)) ∙ differ-apart (xs ++ ys) ∙ ap apart (map-append slot_of xs ys)
+
+-- and so the numbers noted of two rows tell whether their slots are apart
+pub all-apart : (xs ys : List Slot) (at : ℕ) (transactions : List ℕ) → at ≡ length ys → Noted (map transaction_in xs) ys at (length xs + at) transactions
+    → all_differ (take (length xs + length ys) transactions) ≡ apart (map slot_of xs ++ map slot_of ys)
+all-apart xs ys at transactions e k =
+    let all : take at ys ≡ ys = take_all at ys (omega arith) in
+    ap (λ (n : ℕ). all_differ (take (length xs + n) transactions)) (sym e)
+    ∙ ap all_differ (k.noted ∙ ap (λ (l : List Slot). map transaction_in xs ++ map transaction_in l) all)
+    ∙ lists-apart xs ys

@@ -2,39 +2,37 @@
 -- Assumes nothing.
 use Prim.Native.Nat.{ℕ, ◌≤◌, ◌<◌}
 use mathlib.Core.Path.{◌≡◌, refl, sym, ap, ◌∙◌}
-use mathlib.Core.Bool.{Bool, true, false, cond, not, ◌||◌}
+use mathlib.Core.Bool.{Bool, true, false, cond, not}
 use mathlib.Core.List.{List, [], ◌∷◌, ◌++◌, map}
-use mathlib.Core.Logic.{◌⊎◌, inl, inr}
 use mathlib.Core.Option.{none}
 use native.Mathlib.Omega.{arith}
-use lib.ListN.{length, get_or}
-use lib.Seq.{set_out}
-use borrow.Author.Tests.{ltb-true}
+use lib.ListN.{length, get_or, length-set}
+use lib.Seq.{drop-set-lt}
 use Rattle.rule.specs.Lists.{every, some_of, keep}
 use Rattle.rule.specs.Rule as rule
-use Rattle.rule.specs.Step.{named, without, dropping, after, settle, committing, aborting}
+use Rattle.rule.specs.Step.{named, mark, without, dropping, after, settle, committing, aborting}
 use Rattle.rule.specs.Call.{named_committed, refusal}
 use Rattle.rule.specs.InOrder.{without_decision}
 use Rattle.rule.proofs.Lists.{and_left, and_right, and_both}
 use Rattle.rule.proofs.Apart.{length-keep, apart-left}
-use Rattle.rule.proofs.Taken.{free-commit, free-abort}
+use Rattle.rule.proofs.Taken.{free-abort}
 use Rattle.events.specs.declared.Event.{Event}
 use Rattle.events.specs.declared.State.{State}
 use Rattle.filing.specs.declared.Filed.{Filed}
 use Rattle.filing.specs.declared.Slot.{Slot}
 use Rattle.filing.specs.declared.Entry.{Entry}
 use Rattle.filing.specs.declared.Entries.{Entries}
-use Rattle.filing.specs.Slots.{RuleSlot, slot_of, place_of, committed_slot, places, blank}
+use Rattle.filing.specs.Slots.{RuleSlot, slot_of, committed_slot, is_blank, places, blank}
 use Rattle.filing.specs.Entries.{entry_of}
-use Rattle.filing.proofs.Filled.{length-filled}
 use Rattle.account.specs.declared.Account.{Account}
-use Rattle.account.specs.Places.{RuleAccount, used, lists_of, account_of}
+use Rattle.account.specs.Places.{RuleAccount, used, padded, lists_of, account_of}
 use Rattle.account.specs.Steps.{taken_step}
-use Rattle.account.specs.inside.Judged.{FoundAt}
-use Rattle.account.specs.inside.Taken.{taken_as, listed, marked_at, WithoutEvent, WithoutRequest, SettlesBy}
-use Rattle.account.proofs.Padded.{progress-row, held-row}
-use Rattle.account.proofs.Ordered.{Ordered, marked-guarded, without-guarded}
-use Rattle.account.proofs.Marked.{marked-used}
+use Rattle.account.specs.inside.Taken.{taken_as, listed, SettlesBy}
+use Rattle.account.proofs.Padded.{RowOf, progress-row, held-row, account-is}
+use Rattle.account.proofs.Ordered.{Ordered, padded-row, marked-guarded, without-guarded}
+use Rattle.account.proofs.Marked.{marked_at, marked-used}
+use Rattle.account.proofs.Moved.{moved, moved_all}
+use Rattle.account.proofs.Places.{count-used}
 
 every-keep : {A : Type 0} (p q : A → Bool) (xs : List A) → every p xs ≡ true → every p (keep q xs) ≡ true
 every-keep p q [] h = refl
@@ -44,69 +42,76 @@ every-keep p q (x ∷ xs) h = go (q x) (every-keep p q xs (and_right (p x) (ever
     go true k = and_both (p x) (every p (keep q xs)) (and_left (p x) (every p xs) h) k
     go false k = k
 
-either_true : (a b : Bool) → (a ≡ true) ⊎ (b ≡ true) → (a || b) ≡ true
-either_true true b h = refl
-either_true false true h = refl
-either_true false false (inl h) = h
-either_true false false (inr h) = h
-
 module _ (R : rule.Rule State Event ℕ) (a : Account) (many : length a.progress ≡ places) (own : Ordered R a) (t : ℕ) (g : Filed) where
-  -- a commit, with the place that was found
-  pub commit-settled : refusal R (lists_of a) (rule.commit t g) ≡ none → (at : ℕ) → FoundAt t a.progress a.progressing at
-      → (first : Entry) → first ≡ entry_of (rule.noted t g) → (next : Account) (entries : Entries) → SettlesBy R a at first next entries → taken_step next entries ≡ taken_as (committing R (lists_of a) t g)
-  unfolding committing lists_of
-  commit-settled taken at found first is next entries settles =
-      let p = some_of (named t) (lists_of a).progress in
-      let h = some_of (named t) (lists_of a).held in
-      let stands = (free-commit p h (some_of (named_committed t) (lists_of a).progress) taken).0 in
-      let within : at < places = ltb-true at places (found.tells ∙ stands) in
-      let far = apart-left (lists_of a).progress (lists_of a).held own.transactions in
-      let marks = marked-used t a.progress a.progressing at (found.there within) (omega (arith, own.progressing)) (found.is within) far in
-      settles (lists_of a) _ (rule.noted t g) own.lists own.decisions found.there marks is (marked-guarded R a.state (lists_of a).progress own.guards t)
+  -- a commit, with the event marked at the place that was found
+  module _ (at : ℕ) (there : at < a.progressing) (is : (get_or a.progress at blank).transaction ≡ t) where
+    abbrev pub marked_account : Account
+    marked_account = record { state = a.state; progress = marked_at at a.progress; progressing = a.progressing; held = a.held; holding = a.holding }
+
+    abbrev marked_lists : RuleAccount
+    marked_lists = listed (lists_of a).state (mark t (lists_of a).progress) (lists_of a).held
+
+    marked-is : marked_account ≡ account_of marked_lists
+    unfolding lists_of
+    marked-is =
+        let here = committed_slot (get_or a.progress at blank) in
+        let within : a.progressing ≤ length a.progress = omega (arith, own.progressing) in
+        let size : length (marked_at at a.progress) ≡ places = length-set a.progress at here ∙ many in
+        let marks = marked-used t a.progress a.progressing at there within is (apart-left (lists_of a).progress (lists_of a).held own.transactions) in
+        let requests = held-row a (lists_of a) own.lists in
+        account-is marked_account marked_lists refl
+        (padded-row (marked_at at a.progress) a.progressing size own.progressing (ap (every is_blank) (drop-set-lt a.progressing a.progress at here there) ∙ own.blanks) ∙ ap (padded places) marks)
+        (sym (count-used (marked_at at a.progress) a.progressing (omega arith)) ∙ ap length marks)
+        requests.places' requests.count'
+
+    pub commit-settled : (first : Entry) → first ≡ entry_of (rule.noted t g) → (next : Account) (entries : Entries) → SettlesBy R marked_account first next entries
+        → taken_step next entries ≡ taken_as (committing R (lists_of a) t g)
+    unfolding committing
+    commit-settled first e next entries settles =
+        settles marked_lists (rule.noted t g) marked-is own.decisions e (marked-guarded R (lists_of a).state (lists_of a).progress own.guards t)
 
   -- what an abort leaves
-  abbrev pub left_of : RuleAccount
-  left_of = listed (lists_of a).state (without t (lists_of a).progress) (without t (lists_of a).held)
+  abbrev pub left_lists : RuleAccount
+  left_lists = listed (lists_of a).state (without t (lists_of a).progress) (without t (lists_of a).held)
 
-  module _ (left : Account) (less : WithoutEvent a t left) where
-    pub left-holding : left.holding ≤ places
-    left-holding =
-        let y = listed (lists_of a).state (without t (lists_of a).progress) (lists_of a).held in
-        omega (arith, (held-row left y (less (lists_of a) own.lists)).count', (held-row a (lists_of a) own.lists).count', own.holding)
+  fewer : (xs : List RuleSlot) → length (without t xs) ≤ length xs
+  fewer xs = length-keep (λ (x : RuleSlot). not (named t x)) xs
 
-    module _ (rest : Account) (lesser : WithoutRequest left t rest) where
-      rest-is : rest ≡ account_of left_of
-      rest-is = lesser (listed (lists_of a).state (without t (lists_of a).progress) (lists_of a).held) (less (lists_of a) own.lists)
+  -- a row whose used places are without the transaction
+  row-left : (row : List Slot) (count : ℕ) (xs : List RuleSlot) → RowOf row count xs → count ≤ places → moved (without t (used row count)) count row ≡ padded places (without t xs)
+  row-left row count xs whole few =
+      let same : without t (used row count) ≡ without t xs = ap (without t) whole.list in
+      rw same (moved_all (without t xs) count row (omega (arith, fewer xs, whole.count')) places few whole.blanks)
 
-      fewer : (xs : List RuleSlot) → length (without t xs) ≤ length xs
-      fewer xs = length-keep (λ (x : RuleSlot). not (named t x)) xs
+  module _ (rest : Account) (state : rest.state ≡ a.state)
+      (progress : rest.progress ≡ moved (without t (used a.progress a.progressing)) a.progressing a.progress) (progressing : rest.progressing ≡ length (without t (used a.progress a.progressing)))
+      (held : rest.held ≡ moved (without t (used a.held a.holding)) a.holding a.held) (holding : rest.holding ≡ length (without t (used a.held a.holding))) where
+    rest-is : rest ≡ account_of left_lists
+    unfolding lists_of
+    rest-is =
+        let events = progress-row a (lists_of a) own.lists in
+        let requests = held-row a (lists_of a) own.lists in
+        account-is rest left_lists state
+        (progress ∙ row-left a.progress a.progressing (lists_of a).progress events own.progressing) progressing
+        (held ∙ row-left a.held a.holding (lists_of a).held requests own.holding) holding
 
-      few-events : length (without t (lists_of a).progress) ≤ places
-      few-events = omega (arith, fewer (lists_of a).progress, (progress-row a (lists_of a) own.lists).count', own.progressing)
+    pub rest-few : (rest.progressing ≤ places) × (rest.holding ≤ places)
+    unfolding lists_of
+    rest-few =
+        let events = progress-row a (lists_of a) own.lists in
+        let requests = held-row a (lists_of a) own.lists in
+        (omega (arith, progressing, fewer (lists_of a).progress, events.count', own.progressing), omega (arith, holding, fewer (lists_of a).held, requests.count', own.holding))
 
-      pub rest-progressing : rest.progressing ≤ places
-      rest-progressing = omega (arith, (progress-row rest left_of rest-is).count', few-events)
-
-      pub rest-holding : rest.holding ≤ places
-      rest-holding = omega (arith, (held-row rest left_of rest-is).count', fewer (lists_of a).held, (held-row a (lists_of a) own.lists).count', own.holding)
-
-      -- no place is marked
-      unmarked : used (marked_at places rest.progress) rest.progressing ≡ without t (lists_of a).progress
-      unmarked =
-          let events = progress-row rest left_of rest-is in
-          let size : length rest.progress ≡ places = ap length events.places' ∙ length-filled place_of blank places (without t (lists_of a).progress) few-events in
-          ap (λ (l : List Slot). used l rest.progressing) (set_out rest.progress places (committed_slot (get_or rest.progress places blank)) (omega (arith, size))) ∙ events.list
-
-      -- an abort, with the slot that was found
-      pub abort-settled : refusal R (lists_of a) (rule.abort t g) ≡ none → (found : Slot)
-          → ((some_of (named t) (lists_of a).progress || some_of (named t) (lists_of a).held) ≡ true → keep (named t) (lists_of a).progress ++ keep (named t) (lists_of a).held ≡ slot_of found ∷ [])
-          → (first : Entry) → first ≡ entry_of (dropping (slot_of found)) → (next : Account) (entries : Entries) → SettlesBy R rest places first next entries → taken_step next entries ≡ taken_as (aborting R (lists_of a) t)
-      unfolding aborting
-      abort-settled taken found slot first is next entries settles =
-          let p = some_of (named t) (lists_of a).progress in
-          let h = some_of (named t) (lists_of a).held in
-          let free = free-abort p h (some_of (named_committed t) (lists_of a).progress) taken in
-          let guards = without-guarded R (lists_of a).state (lists_of a).progress own.guards t free.1 in
-          let decisions = every-keep without_decision (λ (x : RuleSlot). not (named t x)) (lists_of a).held own.decisions in
-          settles left_of _ (dropping (slot_of found)) rest-is decisions (λ l. absurd (omega arith)) unmarked is guards
-          ∙ ap (λ (xs : List RuleSlot). taken_as (after (map dropping xs) (settle R (lists_of a).state (without t (lists_of a).progress) (without t (lists_of a).held)))) (sym (slot (either_true p h free.0)))
+    -- an abort, with the slot that was found
+    pub abort-settled : refusal R (lists_of a) (rule.abort t g) ≡ none → (found : Slot)
+        → keep (named t) (lists_of a).progress ++ keep (named t) (lists_of a).held ≡ slot_of found ∷ []
+        → (first : Entry) → first ≡ entry_of (dropping (slot_of found)) → (next : Account) (entries : Entries) → SettlesBy R rest first next entries → taken_step next entries ≡ taken_as (aborting R (lists_of a) t)
+    unfolding aborting
+    abort-settled taken found slot first is next entries settles =
+        let p = some_of (named t) (lists_of a).progress in
+        let h = some_of (named t) (lists_of a).held in
+        let free = free-abort p h (some_of (named_committed t) (lists_of a).progress) taken in
+        let guards = without-guarded R (lists_of a).state (lists_of a).progress own.guards t free.1 in
+        let decisions = every-keep without_decision (λ (x : RuleSlot). not (named t x)) (lists_of a).held own.decisions in
+        settles left_lists (dropping (slot_of found)) rest-is decisions is guards
+        ∙ ap (λ (xs : List RuleSlot). taken_as (after (map dropping xs) (settle R (lists_of a).state (without t (lists_of a).progress) (without t (lists_of a).held)))) (sym slot)

@@ -3,9 +3,8 @@
 use Prim.Native.Nat.{ℕ}
 use mathlib.Core.Path.{◌≡◌, refl, sym}
 use mathlib.Core.Logic.{◌↔◌}
-use mathlib.Core.Bool.{Bool, true}
+use mathlib.Core.Bool.{true}
 use mathlib.Core.List.{List}
-use mathlib.Core.Option.{Option}
 use native.Mathlib.Omega.{arith}
 use lib.Dec.{lit≤}
 use Rattle.rule.specs.Rule.{Message, new_account}
@@ -22,7 +21,6 @@ use Rattle.events.proofs.Panel as events-panel
 use Rattle.events.proofs.Table as events-table
 use Rattle.events.proofs.Answers.{range-tells}
 use Rattle.filing.specs.declared.Filed.{Filed}
-use Rattle.filing.specs.declared.Slot.{Slot}
 use Rattle.filing.specs.declared.Entries.{Entries}
 use Rattle.filing.specs.declared.Weighing.{Weighing}
 use Rattle.filing.specs.Slots.{RuleSlot}
@@ -33,11 +31,8 @@ use Rattle.account.specs.Places.{RuleAccount}
 use Rattle.account.specs.First.{progress_limit, held_limit, panel, table_panel, BalanceFits, TableHolds, OutcomesOfTheTable, InOrderExactly, BrokenClauses, StepPromise, QuestionPromise}
 use Rattle.account.specs.inside.Reached.{reached_past}
 use Rattle.account.proofs.Ranged.{Ranged}
-use Rattle.account.proofs.Passed as passed
 use Rattle.account.proofs.Applying as applying
 use Rattle.account.proofs.Voting as voting
-use Rattle.account.proofs.Ordered as ordered
-use Rattle.account.proofs.Answered as answered
 use Rattle.account.proofs.Asked as asked
 use Rattle.account.proofs.Promises as promises
 use Rattle.account.proofs.Table as table
@@ -89,30 +84,13 @@ question-promise = questions.question-promise panel table_panel outcomes-of-the-
 
 -- ---- what the proofs of the functions go by
 
--- the places that judging has passed
-abbrev pub EventsPassed : Account → (transaction : ℕ) → (event : ℕ) → (found : Slot) → (ordered : Bool) → (transactions : List ℕ) → (at : ℕ) → Type 0
-EventsPassed a t event found ordered transactions at = passed.EventsPassed panel a t event found ordered transactions at
-
-abbrev pub RequestsPassed : Account → (transaction : ℕ) → (guarded : Bool) → (found_before : Slot) → (before : Bool) → (listed_before : List ℕ) → (request : ℕ) → (found : Slot) → (ordered : Bool) → (transactions : List ℕ) → (at : ℕ) → Type 0
-RequestsPassed a t guarded found_before before listed_before request found ordered transactions at =
-    passed.RequestsPassed panel a t guarded found_before before listed_before request found ordered transactions at
-
--- the number of the refusal that a message gets, if it gets one; and where it is taken, the account in order, and how a request is weighed
-abbrev pub refusal_of : Account → Message Filed Event → Option ℕ
-refusal_of a m = answered.refusal_by panel a m
-
-abbrev pub Taken : Account → Message Filed Event → Type 0
-Taken a m = answered.TakenBy panel a m
-
-abbrev pub Ordered : Account → Type 0
-Ordered a = ordered.Ordered panel a
-
+-- where a request is taken, how it is weighed
 abbrev pub Weighed : Account → Event → Weighing → Type 0
 Weighed a e w = asked.Weighed panel a e w
 
 -- on the way through the events in progress, and through the requests held
-abbrev pub Applying : Account → (row : List Slot) → Entries → Account → Entries → (ended at : ℕ) → Type 0
-Applying self row entries₀ next entries ended at = applying.Applying panel self row entries₀ next entries ended at
+abbrev pub Applying : Account → Entries → Account → Entries → (ended at : ℕ) → Type 0
+Applying self entries₀ next entries ended at = applying.Applying panel self entries₀ next entries ended at
 
 abbrev pub Voting : Account → Entries → Account → Entries → Outcomes → (voted at : ℕ) → Type 0
 Voting self entries₀ next entries outcomes voted at = voting.Voting panel self entries₀ next entries outcomes voted at

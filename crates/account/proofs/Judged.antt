@@ -1,66 +1,47 @@
--- The refusals by what judging found are the rule's, with 5 in front: of an account in order, the slot that was found is the only one of its transaction, and it is committed
+-- What is asked is refused, by what judging found of an account in order, exactly as by the rule: the slot that was found is the only one of its transaction, and it is committed
 -- exactly if one of that transaction is in progress and committed. By any rule of the events.
 -- Assumes nothing.
-use Prim.Native.Nat.{ℕ, ◌≤◌}
-use mathlib.Core.Path.{◌≡◌, refl, sym, ap, ap₂, ◌∙◌}
+use Prim.Native.Nat.{ℕ, ◌≤◌, ◌<◌}
+use mathlib.Core.Path.{◌≡◌, refl, sym, ap, ◌∙◌}
 use mathlib.Core.Bool.{Bool, true, false, cond, ◌||◌, not, false≢true}
-use mathlib.Core.List.{List, [], ◌∷◌, ◌++◌}
+use mathlib.Core.List.{List, [], ◌∷◌, ◌++◌, map}
 use mathlib.Core.Option.{Option, none, some}
 use lib.Dec.{eqb, leb}
-use lib.ListN.{length}
-use Rattle.std.specs.Prelude.{Result, Ok, Err}
+use native.Mathlib.Omega.{arith}
+use lib.ListN.{length, take, get_or, length-take}
+use lib.Seq.{get_or-take}
+use Rattle.std.specs.Prelude.{None, Some, Result, Ok, Err}
+use Rattle.std.specs.Prelude as std
 use Rattle.rule.specs.Lists.{every, some_of, keep}
 use Rattle.rule.specs.Rule as rule
-use Rattle.rule.specs.InOrder.{without_decision}
+use Rattle.rule.specs.InOrder.{apart, without_decision}
 use Rattle.rule.specs.Step.{named}
 use Rattle.rule.specs.Call as Rule-Call
-use Rattle.rule.proofs.Lists.{some-append, keep_append}
+use Rattle.rule.proofs.Lists.{some-append, keep_append, keep-none}
 use Rattle.events.specs.declared.Event.{Event}
 use Rattle.events.specs.declared.State.{State}
 use Rattle.filing.specs.declared.Decision.{Decision}
 use Rattle.filing.specs.declared.Decision.TheVariants.{Undecided, Committed}
 use Rattle.filing.specs.declared.Filed.{Filed}
 use Rattle.filing.specs.declared.Slot.{Slot}
-use Rattle.filing.specs.Slots.{RuleSlot, is_undecided, decision_of, slot_of}
+use Rattle.filing.specs.Slots.{RuleSlot, is_undecided, decision_of, slot_of, blank}
 use Rattle.refusal.specs.declared.Refusal.{Refusal}
-use Rattle.refusal.specs.declared.Refusal.TheVariants.{NotInOrder, KnownTransaction, AllHeld, UnknownTransaction, HeldTransaction, CommittedAlready, CommittedBefore}
+use Rattle.refusal.specs.declared.Refusal.TheVariants.{AllHeld, UnknownTransaction, HeldTransaction, CommittedAlready, CommittedBefore}
 use Rattle.refusal.specs.Numbers.{number_of}
 use Rattle.account.specs.declared.Account.{Account}
-use Rattle.account.specs.declared.judging.Judged.{Judged}
+use Rattle.account.specs.declared.judging.Found.{Found}
+use Rattle.account.specs.declared.judging.Found.TheVariants.{InProgress, OnHold}
 use Rattle.account.specs.Places.{lists_of}
 use Rattle.account.specs.InOrder.{in_order_by}
-use Rattle.account.specs.inside.Judged.{JudgesBy, waits, is_named, answer_by, message_names}
+use Rattle.account.specs.inside.Judged.{Finds, request_answer_by, commit_answer, abort_answer}
 use Rattle.account.proofs.Places.{count-used}
+use Rattle.account.proofs.Sought.{TheOnly, only-event, only-request}
 use Rattle.account.proofs.Clauses.{rule-clauses}
 
--- the number of the refusal that is found, if one is
-abbrev pub number_in : Result (Unit {0}) Refusal → Option ℕ
+-- the number of a refusal, where it is one
+abbrev pub number_in : {T : Type 0} → Result T Refusal → Option ℕ
 number_in (Ok x) = none
 number_in (Err r) = some (number_of r)
-
-request-number : (named full : Bool) → number_in (cond named (Err KnownTransaction) (cond full (Err AllHeld) (Ok tt))) ≡ cond named (some 6) (cond full (some 7) none)
-request-number true full = refl
-request-number false true = refl
-request-number false false = refl
-
-commit-number : (named waits committed : Bool)
-    → number_in (cond (not named) (Err UnknownTransaction) (cond waits (Err HeldTransaction) (cond committed (Err CommittedAlready) (Ok tt))))
-    ≡ cond (not named) (some 8) (cond waits (some 9) (cond committed (some 10) none))
-commit-number false waits committed = refl
-commit-number true true committed = refl
-commit-number true false true = refl
-commit-number true false false = refl
-
-abort-number : (named committed : Bool)
-    → number_in (cond (not named) (Err UnknownTransaction) (cond committed (Err CommittedBefore) (Ok tt))) ≡ cond (not named) (some 8) (cond committed (some 11) none)
-abort-number false committed = refl
-abort-number true true = refl
-abort-number true false = refl
-
--- a test that is asked behind another
-asked-behind : (b : Bool) {x y : Option ℕ} (z : Option ℕ) → (b ≡ true → x ≡ y) → cond (not b) z x ≡ cond (not b) z y
-asked-behind true z h = h refl
-asked-behind false z h = refl
 
 -- a slot of the transaction is committed exactly if one of those kept is
 is_committed : RuleSlot → Bool
@@ -112,56 +93,85 @@ committed-found t progress held x h k =
     ∙ some-append (Rule-Call.named_committed t) progress held
     ∙ or-none (some_of (Rule-Call.named_committed t) progress) (some_of (Rule-Call.named_committed t) held) (none-committed t held h)
 
-module _ (R : rule.Rule State Event ℕ) (a : Account) (j : Judged) (room : a.holding ≤ length a.held) where
-  module _ (t : ℕ) (k : JudgesBy R a t j) (h : in_order_by R a ≡ true) where
-    abbrev is_there : Bool
-    is_there = some_of (named t) (lists_of a).progress || some_of (named t) (lists_of a).held
+held-number : (full : Bool) → number_in {T = Unit {0}} (cond full (Err AllHeld) (Ok tt)) ≡ cond full (some 7) none
+held-number true = refl
+held-number false = refl
 
-    waits-there : waits j ≡ some_of (named t) (lists_of a).held
-    unfolding lists_of
-    waits-there = (k.request h).tells
+decided-number : {T : Type 0} (x : T) (r : Refusal) (undecided : Bool) → number_in (cond undecided (Ok x) (Err r)) ≡ cond (not undecided) (some (number_of r)) none
+decided-number x r true = refl
+decided-number x r false = refl
 
-    there : is_named j ≡ is_there
-    unfolding lists_of
-    there = ap₂ (λ (x y : Bool). x || y) (k.event h).tells waits-there
+-- what no slot of a list is, is not committed
+unnamed : (t : ℕ) (xs : List RuleSlot) → some_of (named t) xs ≡ false → some_of (Rule-Call.named_committed t) xs ≡ false
+unnamed t xs h = committed-kept t xs ∙ ap (some_of is_committed) (keep-none (named t) xs h)
 
-    full : leb R.held_limit a.holding ≡ leb R.held_limit (length (lists_of a).held)
-    unfolding lists_of
-    full = ap (leb R.held_limit) (sym (count-used a.held a.holding room))
+module _ (R : rule.Rule State Event ℕ) (a : Account) (room : a.holding ≤ length a.held) (t : ℕ) (g : Filed) (h : in_order_by R a ≡ true) where
+  abbrev events : List Slot
+  events = take a.progressing a.progress
 
-    committed : is_there ≡ true → not (is_undecided j.slot.decision) ≡ some_of (Rule-Call.named_committed t) (lists_of a).progress
-    committed q = committed-found t (lists_of a).progress (lists_of a).held j.slot (rule-clauses R a h).decisions (k.slot h q)
+  abbrev requests : List Slot
+  requests = take a.holding a.held
 
-  -- the answer by what was found: 5 where the account is not in order, else the rule's refusal
-  pub judged-refusal : (m : rule.Message Filed Event) → JudgesBy R a (message_names m) j
-      → number_in (answer_by R j m a.holding) ≡ cond (in_order_by R a) (Rule-Call.refusal R (lists_of a) m) (some 5)
-  judged-refusal (rule.request t g e) k = rw k.ordered (go (in_order_by R a) refl)
+  far : apart (map slot_of events ++ map slot_of requests) ≡ true
+  unfolding lists_of
+  far = (rule-clauses R a h).transactions
+
+  decisions : every without_decision (map slot_of requests) ≡ true
+  unfolding lists_of
+  decisions = (rule-clauses R a h).decisions
+
+  committed : (x : Slot) (p q : Bool) → TheOnly t events requests x p q → not (is_undecided x.decision) ≡ some_of (Rule-Call.named_committed t) (map slot_of events)
+  committed x p q k = committed-found t (map slot_of events) (map slot_of requests) x decisions k.only
+
+  pub request-refusal : (e : Event) (found : std.Option Found) → Finds t events requests found → number_in (request_answer_by R found a.holding) ≡ Rule-Call.refusal R (lists_of a) (rule.request t g e)
+  unfolding lists_of
+  request-refusal e None (p, q) =
+      rw (p, q) (held-number (leb R.held_limit a.holding) ∙ ap (λ (n : ℕ). cond (leb R.held_limit n) (some 7) none) (sym (count-used a.held a.holding room)))
+  request-refusal e (Some (InProgress at x)) (below, there, is) = rw (only-event t events requests far at x is below there).stands refl
+  request-refusal e (Some (OnHold x)) (at, below, there, is) =
+      let k = only-request t events requests far at x is below there in
+      rw (k.stands, k.waits) refl
+
+  pub commit-refusal : (found : std.Option Found) → Finds t events requests found → number_in (commit_answer found) ≡ Rule-Call.refusal R (lists_of a) (rule.commit t g)
+  unfolding lists_of
+  commit-refusal None (p, q) = rw (p, q) refl
+  commit-refusal (Some (InProgress at x)) (below, there, is) =
+      let k = only-event t events requests far at x is below there in
+      rw (k.stands, k.waits, ← committed x true false k) (decided-number at CommittedAlready (is_undecided x.decision))
+  commit-refusal (Some (OnHold x)) (at, below, there, is) =
+      let k = only-request t events requests far at x is below there in
+      rw (k.stands, k.waits) refl
+
+  pub abort-refusal : (found : std.Option Found) → Finds t events requests found → number_in (abort_answer found) ≡ Rule-Call.refusal R (lists_of a) (rule.abort t g)
+  unfolding lists_of
+  abort-refusal None (p, q) = rw (p, q) refl
+  abort-refusal (Some (InProgress at x)) (below, there, is) =
+      let k = only-event t events requests far at x is below there in
+      rw (k.stands, ← committed x true false k) (decided-number x CommittedBefore (is_undecided x.decision))
+  abort-refusal (Some (OnHold x)) (at, below, there, is) =
+      let k = only-request t events requests far at x is below there in
+      rw (k.stands, k.waits, unnamed t (map slot_of events) k.stands) refl
+
+  -- the slot that an abort drops is the only one of its transaction
+  pub dropped-only : (found : std.Option Found) → Finds t events requests found → (x : Slot) → abort_answer found ≡ Ok x
+      → keep (named t) (map slot_of events) ++ keep (named t) (map slot_of requests) ≡ slot_of x ∷ []
+  dropped-only None f x e = let z : ◌≡◌ {A = Result Slot Refusal} (Err UnknownTransaction) (Ok x) = e in cc
+  dropped-only (Some (InProgress at y)) (below, there, is) x e = by (is_undecided y.decision) e
     where
-      go : (b : Bool) → in_order_by R a ≡ b
-          → number_in (cond b (cond (is_named j) (Err KnownTransaction) (cond (leb R.held_limit a.holding) (Err AllHeld) (Ok tt))) (Err NotInOrder))
-          ≡ cond b (Rule-Call.refusal R (lists_of a) (rule.request t g e)) (some 5)
-      go true h =
-          request-number (is_named j) (leb R.held_limit a.holding)
-          ∙ ap₂ (λ (x y : Bool). cond x (some 6) (cond y (some 7) none)) (there t k h) (full t k h)
-      go false h = refl
-  judged-refusal (rule.commit t g) k = rw k.ordered (go (in_order_by R a) refl)
+      by : (b : Bool) → cond b (Ok y) (Err CommittedBefore) ≡ Ok x → keep (named t) (map slot_of events) ++ keep (named t) (map slot_of requests) ≡ slot_of x ∷ []
+      by true k = let z : y ≡ x = cc in rw (← z) (only-event t events requests far at y is below there).only
+      by false k = cc
+  dropped-only (Some (OnHold y)) (at, below, there, is) x e = let z : y ≡ x = cc in rw (← z) (only-request t events requests far at y is below there).only
+
+  -- and the event that a commit marks stands at its place
+  pub marked-there : (found : std.Option Found) → Finds t events requests found → (at : ℕ) → commit_answer found ≡ Ok at → (at < a.progressing) × ((get_or a.progress at blank).transaction ≡ t)
+  marked-there None f at e = let z : ◌≡◌ {A = Result ℕ Refusal} (Err UnknownTransaction) (Ok at) = e in cc
+  marked-there (Some (OnHold x)) f at e = let z : ◌≡◌ {A = Result ℕ Refusal} (Err HeldTransaction) (Ok at) = e in cc
+  marked-there (Some (InProgress place x)) (below, there, is) at e = by (is_undecided x.decision) e
     where
-      go : (b : Bool) → in_order_by R a ≡ b
-          → number_in (cond b (cond (not (is_named j)) (Err UnknownTransaction) (cond (waits j) (Err HeldTransaction) (cond (not (is_undecided j.slot.decision)) (Err CommittedAlready) (Ok tt)))) (Err NotInOrder))
-          ≡ cond b (Rule-Call.refusal R (lists_of a) (rule.commit t g)) (some 5)
-      go true h =
-          commit-number (is_named j) (waits j) (not (is_undecided j.slot.decision))
-          ∙ ap₂ (λ (x y : Bool). cond (not x) (some 8) (cond y (some 9) (cond (not (is_undecided j.slot.decision)) (some 10) none))) (there t k h) (waits-there t k h)
-          ∙ asked-behind (is_there t k h) (some 8)
-          (λ q. ap (λ (x : Bool). cond (some_of (named t) (lists_of a).held) (some 9) (cond x (some 10) none)) (committed t k h q))
-      go false h = refl
-  judged-refusal (rule.abort t g) k = rw k.ordered (go (in_order_by R a) refl)
-    where
-      go : (b : Bool) → in_order_by R a ≡ b
-          → number_in (cond b (cond (not (is_named j)) (Err UnknownTransaction) (cond (not (is_undecided j.slot.decision)) (Err CommittedBefore) (Ok tt))) (Err NotInOrder))
-          ≡ cond b (Rule-Call.refusal R (lists_of a) (rule.abort t g)) (some 5)
-      go true h =
-          abort-number (is_named j) (not (is_undecided j.slot.decision))
-          ∙ ap (λ (x : Bool). cond (not x) (some 8) (cond (not (is_undecided j.slot.decision)) (some 11) none)) (there t k h)
-          ∙ asked-behind (is_there t k h) (some 8) (λ q. ap (λ (x : Bool). cond x (some 11) none) (committed t k h q))
-      go false h = refl
+      by : (b : Bool) → cond b (Ok place) (Err CommittedAlready) ≡ Ok at → (at < a.progressing) × ((get_or a.progress at blank).transaction ≡ t)
+      by true k =
+          let z : place ≡ at = cc in
+          let within : place < a.progressing = omega (arith, length-take a.progressing a.progress) in
+          rw (← z, ← get_or-take a.progressing a.progress place blank within, there) (within, is)
+      by false k = cc

@@ -24,14 +24,12 @@ pub mod Answers
 pub mod Forms
 pub mod Plain
 pub mod First
-pub mod Said
 pub mod Kept
 pub mod Refused
 pub mod Promises
 pub mod Differ
-pub mod Sought
-pub mod Passed
 pub mod Concluded
+pub mod Sought
 pub mod Walks
 pub mod Table
 pub mod InOrderExactly

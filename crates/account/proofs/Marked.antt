@@ -5,7 +5,7 @@ use mathlib.Core.Path.{◌≡◌, refl, sym, ap, ap₂, ◌∙◌}
 use mathlib.Core.Bool.{true, false}
 use mathlib.Core.List.{List, [], ◌∷◌, ◌++◌, map}
 use native.Mathlib.Omega.{arith}
-use lib.ListN.{length, get_or, take, drop}
+use lib.ListN.{length, get_or, take, drop, set}
 use lib.Seq.{split_at, set_split, take-set-lt, length-take-le, get_or-take}
 use borrow.Author.Tests.{eq-eqb}
 use Rattle.rule.specs.Lists.{some_of}
@@ -17,7 +17,10 @@ use Rattle.rule.proofs.Apart.{apart-at}
 use Rattle.filing.specs.declared.Slot.{Slot}
 use Rattle.filing.specs.Slots.{RuleSlot, slot_of, decision_of, committed_slot, blank}
 use Rattle.account.specs.Places.{used}
-use Rattle.account.specs.inside.Taken.{marked_at}
+
+-- the events in progress with the one at that place committed
+abbrev pub marked_at : ℕ → List Slot → List Slot
+marked_at at slots = set slots at (committed_slot (get_or slots at blank))
 
 mark-none : (t : ℕ) (xs : List RuleSlot) → some_of (named t) xs ≡ false → mark t xs ≡ xs
 mark-none t [] h = refl

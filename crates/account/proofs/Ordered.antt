@@ -31,7 +31,7 @@ blank-places (x ∷ xs) h =
     ap₂ (λ (y : Slot) (ys : List Slot). y ∷ ys) (blank-place x (and_left (is_blank x) (every is_blank xs) h)) (blank-places xs (and_right (is_blank x) (every is_blank xs) h))
 
 -- a row whose blanks are blank is padded
-padded-row : (row : List Slot) (count : ℕ) → length row ≡ places → count ≤ places → every is_blank (drop count row) ≡ true → row ≡ padded places (used row count)
+pub padded-row : (row : List Slot) (count : ℕ) → length row ≡ places → count ≤ places → every is_blank (drop count row) ≡ true → row ≡ padded places (used row count)
 padded-row row count many few blanks =
     let number : length (used row count) ≡ count = count-used row count (omega arith) in
     let left : length (drop count row) ≡ places - count = length-drop count row ∙ ap (λ (k : ℕ). k - count) many in
@@ -44,6 +44,7 @@ module _ (R : Rule State Event ℕ) (a : Account) where
   pub record Ordered : Type 0 where
     pub progressing : a.progressing ≤ places
     pub holding : a.holding ≤ places
+    pub blanks : every is_blank (drop a.progressing a.progress) ≡ true
     pub lists : a ≡ account_of (lists_of a)
     pub transactions : apart ((lists_of a).progress ++ (lists_of a).held) ≡ true
     pub decisions : every without_decision (lists_of a).held ≡ true
@@ -59,6 +60,7 @@ module _ (R : Rule State Event ℕ) (a : Account) where
       record {
         progressing = p;
         holding = q;
+        blanks = own.blanks;
         lists =
             λ i.
             record {

@@ -1,117 +1,74 @@
--- Looking for a transaction in a row, place by place: the last place of it so far. Where the transactions are apart, the last one is the only one.
+-- Where the transactions are apart, the slot that was found is the only one of its transaction.
 -- Assumes nothing.
-use Prim.Native.Nat.{ℕ, ◌+◌, ◌<◌}
-use mathlib.Core.Path.{◌≡◌, refl, sym, ap, ◌∙◌}
-use mathlib.Core.Bool.{Bool, true, false, cond, ◌||◌, not, false≢true}
-use mathlib.Core.List.{List, [], ◌∷◌, ◌++◌, map}
-use native.Mathlib.Omega.{arith}
-use lib.Dec.{eqb, ltb}
-use lib.ListN.{length, get_or, take}
-use borrow.Author.Tests.{lt-ltb, eq-eqb, ne_eqb, eqb-true, not-true}
+use Prim.Native.Nat.{ℕ, suc, ◌<◌}
+use mathlib.Core.Path.{◌≡◌, sym, ap, ◌∙◌}
+use mathlib.Core.Bool.{Bool, true, false}
+use mathlib.Core.List.{List, [], ◌∷◌, ◌++◌, map, append_assoc}
+use lib.ListN.{length, get_or, take, drop}
+use lib.Seq.{split_at}
+use borrow.Author.Tests.{eq-eqb}
 use Rattle.rule.specs.Lists.{some_of, keep}
 use Rattle.rule.specs.InOrder.{apart}
 use Rattle.rule.specs.Step.{named}
-use Rattle.rule.proofs.Lists.{and_left, and_right, or_left, or_right, some-append, keep-none}
+use Rattle.rule.proofs.Lists.{or_left, or_right, map-append, some-append, keep_append, keep-none, parts-some}
+use Rattle.rule.proofs.Apart.{apart-at}
 use Rattle.filing.specs.declared.Slot.{Slot}
-use Rattle.filing.specs.Slots.{places, blank, slot_of}
-use Rattle.account.specs.Places.{used}
-use Rattle.account.specs.inside.Judged.{FoundAt}
-use Rattle.account.proofs.Places.{take_more, used-more}
+use Rattle.filing.specs.Slots.{RuleSlot, slot_of, decision_of, blank}
 
--- the last of that transaction, or what was found before
-abbrev pub last_named : ℕ → Slot → List Slot → Slot
-last_named t found [] = found
-last_named t found (x ∷ xs) = last_named t (cond (eqb t x.transaction) x found) xs
+-- the slots before a place, the one at it, those behind it
+pub slot-parts : (row : List Slot) (at : ℕ) (x : Slot) → at < length row → get_or row at blank ≡ x → map slot_of row ≡ map slot_of (take at row) ++ (slot_of x ∷ map slot_of (drop (suc at) row))
+slot-parts row at x h e =
+    ap (map slot_of) (split_at row at blank h)
+    ∙ map-append slot_of (take at row) (get_or row at blank ∷ drop (suc at) row)
+    ∙ ap (λ (y : Slot). map slot_of (take at row) ++ (slot_of y ∷ map slot_of (drop (suc at) row))) e
 
--- what was found before a place of a row
-pub record SoughtBefore (t : ℕ) (row : List Slot) (first : Slot) (at place : ℕ) (found : Slot) : Type 0 where
-  pub stands : FoundAt t row at place
-  pub last : found ≡ last_named t first (take at row)
+module _ (t : ℕ) (before : List RuleSlot) (x : Slot) (behind : List RuleSlot) (is : x.transaction ≡ t) where
+  stands-there : some_of (named t) (before ++ (slot_of x ∷ behind)) ≡ true
+  stands-there = parts-some (named t) before (slot_of x) behind (eq-eqb t x.transaction (sym is))
 
-last-append : (t : ℕ) (found : Slot) (xs ys : List Slot) → last_named t found (xs ++ ys) ≡ last_named t (last_named t found xs) ys
-last-append t found [] ys = refl
-last-append t found (x ∷ xs) ys = last-append t (cond (eqb t x.transaction) x found) xs ys
+  module _ (far : apart (before ++ (slot_of x ∷ behind)) ≡ true) where
+    pub others : (some_of (named t) before ≡ false) × (some_of (named t) behind ≡ false)
+    others = rw is at (apart-at before x.transaction x.filed x.event (decision_of x.decision) behind far)
 
-or-true : (b c : Bool) → c ≡ true → (b || c) ≡ true
-or-true true c h = refl
-or-true false c h = h
+    only-one : keep (named t) (before ++ (slot_of x ∷ behind)) ≡ slot_of x ∷ []
+    only-one =
+        rw (keep_append (named t) before (slot_of x ∷ behind), keep-none (named t) before others.0, eq-eqb t x.transaction (sym is))
+        (ap (λ (l : List RuleSlot). slot_of x ∷ l) (keep-none (named t) behind others.1))
 
-or-false : (b c : Bool) → c ≡ false → (b || c) ≡ b
-or-false true c h = refl
-or-false false c h = h
+module _ (t : ℕ) (events requests : List Slot) where
+  -- a slot, in progress or held, that is the only one of the transaction
+  pub record TheOnly (x : Slot) (in_progress held : Bool) : Type 0 where
+    pub stands : some_of (named t) (map slot_of events) ≡ in_progress
+    pub waits : some_of (named t) (map slot_of requests) ≡ held
+    pub only : keep (named t) (map slot_of events) ++ keep (named t) (map slot_of requests) ≡ slot_of x ∷ []
 
-module _ (t : ℕ) (row : List Slot) (first : Slot) where
-  pub sought-none : SoughtBefore t row first 0 places first
-  sought-none = record { stands = record { tells = refl; there = λ h. absurd (omega arith); is = λ h. absurd (omega arith) }; last = refl }
+  module _ (far : apart (map slot_of events ++ map slot_of requests) ≡ true) (at : ℕ) (x : Slot) (is : x.transaction ≡ t) where
+    pub only-event : at < length events → get_or events at blank ≡ x → TheOnly x true false
+    only-event h e =
+        let before = map slot_of (take at events) in
+        let behind = map slot_of (drop (suc at) events) in
+        let ys = map slot_of requests in
+        let parts = slot-parts events at x h e in
+        let whole : map slot_of events ++ ys ≡ before ++ (slot_of x ∷ (behind ++ ys)) = ap (λ (l : List RuleSlot). l ++ ys) parts ∙ append_assoc before (slot_of x ∷ behind) ys in
+        let far' = rw whole at far in
+        let none = sym (some-append (named t) behind ys) ∙ (others t before x (behind ++ ys) is far').1 in
+        record {
+          stands = ap (some_of (named t)) parts ∙ stands-there t before x behind is;
+          waits = or_right (some_of (named t) behind) (some_of (named t) ys) none;
+          only = sym (keep_append (named t) (map slot_of events) ys) ∙ ap (keep (named t)) whole ∙ only-one t before x (behind ++ ys) is far';
+        }
 
-  module _ (at place : ℕ) (found : Slot) (room : at < length row) (k : SoughtBefore t row first at place found) where
-    abbrev here : Slot
-    here = get_or row at blank
-
-    some_more : some_of (named t) (used row (at + 1)) ≡ (some_of (named t) (used row at) || eqb t here.transaction)
-    some_more =
-        ap (some_of (named t)) (used-more row at blank room) ∙ some-append (named t) (used row at) (slot_of here ∷ [])
-        ∙ ap (λ (b : Bool). some_of (named t) (used row at) || b) (or-false (eqb t here.transaction) false refl)
-
-    last_more : last_named t first (take (at + 1) row) ≡ cond (eqb t here.transaction) here (last_named t first (take at row))
-    last_more = ap (last_named t first) (take_more row at blank room) ∙ last-append t first (take at row) (here ∷ [])
-
-    module _ (place' : ℕ) (found' : Slot) where
-      -- it stands at this place,
-      pub sought-here : at < places → t ≡ here.transaction → place' ≡ at → found' ≡ here → SoughtBefore t row first (at + 1) place' found'
-      sought-here small e p f =
-          let same = eq-eqb t here.transaction e in
-          record {
-            stands =
-                record {
-                  tells = ap (λ (n : ℕ). ltb n places) p ∙ lt-ltb at places small ∙ sym (some_more ∙ or-true (some_of (named t) (used row at)) (eqb t here.transaction) same);
-                  there = λ h. omega arith;
-                  is = λ h. rw p (sym e);
-                };
-            last = f ∙ sym (last_more ∙ ap (λ (b : Bool). cond b here (last_named t first (take at row))) same);
-          }
-
-      -- or not
-      pub sought-else : (t ≡ here.transaction → ⊥) → place' ≡ place → found' ≡ found → SoughtBefore t row first (at + 1) place' found'
-      sought-else e p f =
-          let other = ne_eqb t here.transaction e in
-          let old = k.stands in
-          record {
-            stands =
-                record {
-                  tells = ap (λ (n : ℕ). ltb n places) p ∙ old.tells ∙ sym (some_more ∙ or-false (some_of (named t) (used row at)) (eqb t here.transaction) other);
-                  there = λ h. let z = old.there (omega arith) in omega arith;
-                  is = λ h. rw p (old.is (omega arith));
-                };
-            last = f ∙ k.last ∙ sym (last_more ∙ ap (λ (b : Bool). cond b here (last_named t first (take at row))) other);
-          }
-
--- where none of these has it, what was found before stays
-last_none : (t : ℕ) (found : Slot) (xs : List Slot) → some_of (named t) (map slot_of xs) ≡ false → last_named t found xs ≡ found
-last_none t found [] h = refl
-last_none t found (x ∷ xs) h =
-    let other = or_left (eqb t x.transaction) (some_of (named t) (map slot_of xs)) h in
-    ap (λ (b : Bool). last_named t (cond b x found) xs) other ∙ last_none t found xs (or_right (eqb t x.transaction) (some_of (named t) (map slot_of xs)) h)
-
--- where the transactions are apart, the one that was found is the only one
-only-last : (t : ℕ) (found : Slot) (xs : List Slot) → apart (map slot_of xs) ≡ true → some_of (named t) (map slot_of xs) ≡ true
-    → keep (named t) (map slot_of xs) ≡ slot_of (last_named t found xs) ∷ []
-only-last t found [] h q = absurd (false≢true q)
-only-last t found (x ∷ xs) h q =
-    let far = not (some_of (named x.transaction) (map slot_of xs)) in
-    go (eqb t x.transaction) refl q (λ r. only-last t found xs (and_right far (apart (map slot_of xs)) h) r)
-  where
-    go : (b : Bool) → eqb t x.transaction ≡ b → (b || some_of (named t) (map slot_of xs)) ≡ true
-        → (some_of (named t) (map slot_of xs) ≡ true → keep (named t) (map slot_of xs) ≡ slot_of (last_named t found xs) ∷ [])
-        → cond b (slot_of x ∷ keep (named t) (map slot_of xs)) (keep (named t) (map slot_of xs)) ≡ slot_of (last_named t (cond b x found) xs) ∷ []
-    go true e r rest =
-        let others = some_of (named x.transaction) (map slot_of xs) in
-        let none : some_of (named t) (map slot_of xs) ≡ false = rw (eqb-true t x.transaction e) (not-true others (and_left (not others) (apart (map slot_of xs)) h)) in
-        rw (keep-none (named t) (map slot_of xs) none, last_none t x xs none)
-    go false e r rest = rest r
-
--- and so in two rows, one after the other
-module _ (t : ℕ) (xs ys : List Slot) where
-  pub only-found : (found : Slot) → found ≡ last_named t (last_named t blank xs) ys → apart (map slot_of (xs ++ ys)) ≡ true → some_of (named t) (map slot_of (xs ++ ys)) ≡ true
-      → keep (named t) (map slot_of (xs ++ ys)) ≡ slot_of found ∷ []
-  only-found found f h q = only-last t blank (xs ++ ys) h q ∙ ap (λ (x : Slot). slot_of x ∷ []) (last-append t blank xs ys ∙ sym f)
+    pub only-request : at < length requests → get_or requests at blank ≡ x → TheOnly x false true
+    only-request h e =
+        let before = map slot_of (take at requests) in
+        let behind = map slot_of (drop (suc at) requests) in
+        let xs = map slot_of events in
+        let parts = slot-parts requests at x h e in
+        let whole : xs ++ map slot_of requests ≡ (xs ++ before) ++ (slot_of x ∷ behind) = ap (λ (l : List RuleSlot). xs ++ l) parts ∙ sym (append_assoc xs before (slot_of x ∷ behind)) in
+        let far' = rw whole at far in
+        let none = sym (some-append (named t) xs before) ∙ (others t (xs ++ before) x behind is far').0 in
+        record {
+          stands = or_left (some_of (named t) xs) (some_of (named t) before) none;
+          waits = ap (some_of (named t)) parts ∙ stands-there t before x behind is;
+          only = sym (keep_append (named t) xs (map slot_of requests)) ∙ ap (keep (named t)) whole ∙ only-one t (xs ++ before) x behind is far';
+        }

@@ -8,7 +8,7 @@ use mathlib.Core.List.{List, [], ◌∷◌, ◌++◌, append-nil}
 use native.Mathlib.Omega.{arith}
 use lib.Dec.{eqb}
 use lib.ListN.{length, get_or, set, length-append}
-use borrow.Author.Tests.{eqb-true, not-true}
+use borrow.Author.Tests.{eqb-true, not-true, lt-ltb}
 use Rattle.rule.specs.Lists.{every}
 use Rattle.rule.specs.Rule as rule
 use Rattle.rule.specs.Weigh.{decide}
@@ -22,7 +22,7 @@ use Rattle.filing.specs.declared.Weighing.{Weighing}
 use Rattle.filing.specs.declared.Entry.{Entry}
 use Rattle.filing.specs.declared.Entries.{Entries}
 use Rattle.filing.specs.Slots.{RuleSlot, places, blank}
-use Rattle.filing.specs.Entries.{RuleEntry, is_accepted, is_held, weighing_of, entry_of, entries_of, most}
+use Rattle.filing.specs.Entries.{RuleEntry, is_accepted, is_held, weighing_of, entry_of, entries_of, most, pushed}
 use Rattle.account.specs.declared.Account.{Account}
 use Rattle.account.specs.declared.outcomes.Outcomes.{Outcomes}
 use Rattle.account.specs.Places.{RuleAccount, used, account_of}
@@ -94,9 +94,6 @@ module _ (R : rule.Rule State Event ℕ) where
 
     -- one that is voted on, with all before it
     module _ (entry : Entry) (is : entry ≡ entry_of (vote_on (get_or next.held at blank) w)) (first : (eqb at voted && not (is_held w.verdict)) ≡ true) where
-      abbrev pub more : Entries
-      more = record { at = set entries.at entries.count entry; count = entries.count + 1 }
-
       same : at ≡ voted
       same = eqb-true at voted (and_left (eqb at voted) (not (is_held w.verdict)) first)
 
@@ -113,14 +110,14 @@ module _ (R : rule.Rule State Event ℕ) where
             held = set next.held at blank;
             holding = next.holding;
           })
-          more outcomes' (voted + 1) (at + 1)
+          (pushed entries entry) outcomes' (voted + 1) (at + 1)
       voting-accept ranged outcomes' v known =
           let x = get_or self.held at blank in
           let x' = get_or next.held at blank in
           let free : next.progressing < places = omega (arith, decides.free v, ranged.few) in
           record {
             within = omega (arith, so_far.within);
-            counts = omega (arith, so_far.counts);
+            counts = rw (lt-ltb entries.count most room) (omega (arith, so_far.counts));
             state = so_far.state;
             holding = so_far.holding;
             held = up-gone self.held next.held voted at so_far.held inside so_far.counts.0 same;
@@ -130,7 +127,7 @@ module _ (R : rule.Rule State Event ℕ) where
             leads =
                 λ y written lists decisions e g.
                 let d = rw (← same) at (so_far.leads y written lists decisions e g) in
-                rw (here, ← so_far.number, ← same)
+                rw (lt-ltb entries.count most room, here, ← so_far.number, ← same)
                 (drained-accept R y written self.held self.holding next.progress so_far.events entries at d below (omega (arith, so_far.within)) w (decided y lists d.guards) entry (rw here at is) room (omega (arith, so_far.number)) v);
           }
 
@@ -143,11 +140,11 @@ module _ (R : rule.Rule State Event ℕ) where
             held = set next.held at blank;
             holding = next.holding;
           })
-          more outcomes (voted + 1) (at + 1)
+          (pushed entries entry) outcomes (voted + 1) (at + 1)
       voting-reject v =
           record {
             within = omega (arith, so_far.within);
-            counts = omega (arith, so_far.counts);
+            counts = rw (lt-ltb entries.count most room) (omega (arith, so_far.counts));
             state = so_far.state;
             holding = so_far.holding;
             held = up-gone self.held next.held voted at so_far.held inside so_far.counts.0 same;
@@ -157,7 +154,7 @@ module _ (R : rule.Rule State Event ℕ) where
             leads =
                 λ y written lists decisions e g.
                 let d = rw (← same) at (so_far.leads y written lists decisions e g) in
-                rw (← same)
+                rw (lt-ltb entries.count most room, ← same)
                 (drained-reject R y written self.held self.holding next.progress so_far.events entries at d below (omega (arith, so_far.within)) w (decided y lists d.guards) entry (rw here at is) room v (not-true (is_held w.verdict) (and_right (eqb at voted) (not (is_held w.verdict)) first)));
           }
 

@@ -1,22 +1,31 @@
 // Whether an account is in order, clause by clause (docs/REGISTER.md, 6), and what is found on the way: the outcomes of the events in progress, and where a transaction stands.
-ghost use Rattle.std.specs.Prelude.{◌≡◌, false, ◌≤◌, length, take};
+ghost use Rattle.std.specs.Prelude.{◌≡◌, ◌≤◌, ◌+◌, ◌++◌, length, map, true};
+ghost use Rattle.std.specs.List.{list_all};
+ghost use Rattle.std.specs.List.Sorted.{IsStrictlyIncreasing};
+ghost use Rattle.rule.specs.InOrder as order;
+ghost use Rattle.filing.specs.declared.Slot.{Slot};
+ghost use Rattle.filing.specs.Slots.{is_blank, is_undecided, slot_of};
 ghost use Rattle.account.specs.First.{in_order_of};
-ghost use Rattle.account.specs.inside.Judged.{both_rows, all_differ};
+ghost use Rattle.account.specs.inside.Judged.{both_rows, all_differ, Finds};
 ghost use Rattle.account.specs.inside.First.{Judges};
 
 use crate::Account;
 use crate::outcomes::Outcomes;
-use events::State;
 use filing::Slot;
+use refusal::Refusal;
 
-// What judging finds. The place of a transaction in progress, or held, is past the last place where there is none; its slot is the one found, the blank where none is.
+// Where a transaction stands: in progress, at a place, or held; and its slot.
+#[derive(Clone, Copy, Drop)]
+pub(crate) enum Found {
+    InProgress(usize, Slot),
+    OnHold(Slot),
+}
+
+// What judging finds of an account in order.
 #[derive(Clone, Copy, Drop)]
 pub(crate) struct Judged {
     pub(crate) outcomes: Outcomes,
-    pub(crate) slot: Slot,
-    pub(crate) event: usize,
-    pub(crate) request: usize,
-    pub(crate) in_order: bool,
+    pub(crate) found: Option<Found>,
 }
 
 impl Account {
@@ -27,126 +36,109 @@ impl Account {
     pub fn in_order(&self) -> bool
         ensures { result ≡ in_order_of self.now }
     {
-        self.judge(0).in_order
+        self.judge(0).is_ok()
     }
 
-    // Judges the account, and looks for a transaction. The loops stand in this body, and each event in progress is looked at once: handing a row to a helper costs a copy of it.
-    // At an unused place that is not blank it stops, so that the compiler does not carry a test through these loops.
-    pub(crate) fn judge(&self, transaction: u32) -> Judged
+    // Judges the account, and looks for a transaction.
+    pub(crate) fn judge(&self, transaction: u32) -> Result<Judged, Refusal>
         ensures { Judges self.now transaction result }
     {
-        let state = self.state;
-        let progressing = self.progressing;
-        let holding = self.holding;
-        let mut outcomes = Outcomes::of(state);
-        let mut event = Account::PLACES;
-        let mut request = Account::PLACES;
-        let mut found = Slot::BLANK;
-        if (Account::PROGRESS < progressing) | (Account::HELD < holding) {
-            return disordered(outcomes, found, event, request);
+        if (Account::PROGRESS < self.progressing) | (Account::HELD < self.holding) {
+            return Err(Refusal::NotInOrder);
         }
-        let mut in_order = state.fits();
-        let mut transactions = [0; Account::BOTH];
-        let mut at = 0;
-        while at < progressing {
-            let slot = self.progress[at];
-            let ahead = slot.event;
-            let decision = slot.decision;
-            in_order = in_order & ((0 < at) | decision.is_undecided());
-            outcomes = outcomes.with(ahead, decision);
-            transactions[at] = slot.transaction;
-            if transaction == slot.transaction {
-                event = at;
-                found = slot;
-            }
-            at += 1;
+        let (events, unused) = self.progress.split_at(self.progressing);
+        let (requests, unused_held) = self.held.split_at(self.holding);
+        let outcomes = Outcomes::after(self.state, events);
+        let in_order = all_blank(unused)
+            & all_blank(unused_held)
+            & self.state.fits()
+            & differ(events, requests)
+            & without_decisions(requests)
+            & outcomes.guarded
+            & oldest_undecided(events)
+            & outcomes.oldest_stays_held(self.progressing, requests);
+        if !in_order {
+            return Err(Refusal::NotInOrder);
         }
-        while at < Account::PLACES {
-            let slot = self.progress[at];
-            if !slot.is_blank() {
-                return disordered(outcomes, found, event, request);
-            }
-            at += 1;
-        }
-        at = 0;
-        while at < holding {
-            let slot = self.held[at];
-            let waiting = slot.event;
-            let decision = slot.decision;
-            in_order = in_order
-                & decision.is_undecided()
-                & ((0 < at) | outcomes.stays_held(progressing, waiting));
-            transactions[progressing + at] = slot.transaction;
-            if transaction == slot.transaction {
-                request = at;
-                found = slot;
-            }
-            at += 1;
-        }
-        while at < Account::PLACES {
-            let slot = self.held[at];
-            if !slot.is_blank() {
-                return disordered(outcomes, found, event, request);
-            }
-            at += 1;
-        }
-        in_order = in_order & outcomes.guarded & differ(&transactions, progressing + holding);
-        Judged {
+        Ok(Judged {
             outcomes,
-            slot: found,
-            event,
-            request,
-            in_order,
-        }
+            found: find(transaction, events, requests),
+        })
     }
 }
 
-// What was found so far of an account that is not in order: nothing counts but that.
-fn disordered(outcomes: Outcomes, slot: Slot, event: usize, request: usize) -> Judged
-    ensures { result.in_order ≡ false }
+// Whether nothing is left in unused places (6.3).
+fn all_blank(unused: &[Slot]) -> bool
+    ensures { result ≡ list_all is_blank unused.now }
 {
-    Judged {
-        outcomes,
-        slot,
-        event,
-        request,
-        in_order: false,
+    unused.iter().all(|slot| slot.is_blank())
+}
+
+// Whether the oldest event in progress, if there is one, is undecided (6.6).
+fn oldest_undecided(events: &[Slot]) -> bool
+    ensures { result ≡ order.oldest_undecided (map slot_of events.now) }
+{
+    match events {
+        [oldest, ..] => oldest.decision.is_undecided(),
+        [] => true,
     }
 }
 
-// Whether the first transactions, so many of them, all differ (6.4). Numbers that rise do, and the youngest transaction mostly has the highest: only where they do not rise is every pair looked at.
-fn differ(transactions: &[u32; Account::BOTH], count: usize) -> bool
-    requires { (count ≤ both_rows) × (length transactions.now ≡ both_rows) }
-    ensures { result ≡ all_differ (take count transactions.now) }
+// Whether no request held has a decision (6.4).
+fn without_decisions(requests: &[Slot]) -> bool
+    ensures { result ≡ list_all (λ (x : Slot). is_undecided x.decision) requests.now }
 {
-    let mut at = count;
-    let mut lowest = 4_294_967_295;
-    while 0 < at {
-        at -= 1;
-        let here = transactions[at];
-        if lowest <= here {
-            return pairs_differ(transactions, count);
+    requests.iter().all(|slot| slot.decision.is_undecided())
+}
+
+// Whether all transactions differ (6.4). Numbers that rise do, and the youngest transaction mostly has the highest: only where they do not rise is every pair looked at.
+fn differ(events: &[Slot], requests: &[Slot]) -> bool
+    requires { length events.now + length requests.now ≤ both_rows }
+    ensures { result ≡ order.apart (map slot_of events.now ++ map slot_of requests.now) }
+{
+    let mut transactions = [0; Account::BOTH];
+    for (at, slot) in events.iter().enumerate() {
+        transactions[at] = slot.transaction;
+    }
+    for (at, slot) in requests.iter().enumerate() {
+        transactions[events.len() + at] = slot.transaction;
+    }
+    let transactions = &transactions[..events.len() + requests.len()];
+    rise(transactions) || pairs_differ(transactions)
+}
+
+// Whether each number is above the one before.
+fn rise(numbers: &[u32]) -> bool
+    ensures { result ≡ true → IsStrictlyIncreasing numbers.now }
+{
+    numbers.is_sorted_by(|before, behind| *before < *behind)
+}
+
+// Whether all numbers differ, pair by pair.
+fn pairs_differ(numbers: &[u32]) -> bool
+    ensures { result ≡ all_differ numbers.now }
+{
+    for (at, number) in numbers.iter().enumerate() {
+        if numbers[at + 1..].contains(number) {
+            return false;
         }
-        lowest = here;
     }
     true
 }
 
-// The same, pair by pair.
-fn pairs_differ(transactions: &[u32; Account::BOTH], count: usize) -> bool
-    requires { (count ≤ both_rows) × (length transactions.now ≡ both_rows) }
-    ensures { result ≡ all_differ (take count transactions.now) }
+// Where a transaction stands among these.
+fn find(transaction: u32, events: &[Slot], requests: &[Slot]) -> Option<Found>
+    ensures { Finds transaction events.now requests.now result }
 {
-    let mut at = 0;
-    while at < count {
-        let mut behind = at + 1;
-        while behind < count {
-            if transactions[at] == transactions[behind] {
-                return false;
-            }
-            behind += 1;
+    for (at, slot) in events.iter().enumerate() {
+        if slot.transaction == transaction {
+            return Some(Found::InProgress(at, *slot));
         }
-        at += 1;
     }
-    true
+    for slot in requests {
+        if slot.transaction == transaction {
+            return Some(Found::OnHold(*slot));
+        }
+    }
+    None
 }

@@ -1,13 +1,12 @@
 // What is known of the outcomes of the events in progress, and the weighing of a request by it (docs/REGISTER.md, 4).
-ghost use Rattle.std.specs.Prelude.{◌≡◌, List, [], ◌∷◌, ◌++◌, length, ℕ, ◌≤◌};
+ghost use Rattle.std.specs.Prelude.{◌≡◌, List, [], ◌∷◌, ◌++◌, length, map, ℕ, ◌≤◌};
 ghost use Rattle.rule.specs.Rule.{slot};
 ghost use Rattle.rule.specs.Weigh.{reason_by};
 ghost use Rattle.events.specs.declared.State.{State};
 ghost use Rattle.events.specs.Events.{reason_of, reason_byte};
 ghost use Rattle.filing.specs.declared.Filed.{Filed};
-ghost use Rattle.filing.specs.Slots.{RuleSlot, places, decision_of};
+ghost use Rattle.filing.specs.Slots.{RuleSlot, places, decision_of, slot_of};
 ghost use Rattle.filing.specs.Entries.{verdict_of};
-ghost use Rattle.account.specs.Places.{used};
 ghost use Rattle.account.specs.inside.Known.{verdict_by};
 ghost use Rattle.account.specs.inside.First.{Knows, Decides, StaysHeld};
 
@@ -38,39 +37,48 @@ impl Outcomes {
         }
     }
 
+    // The outcomes of these events in progress, an event at a time.
+    pub(crate) fn after(s: State, events: &[Slot]) -> Outcomes
+        requires { length events.now ≤ places }
+        ensures { Knows s (map slot_of events.now) result }
+    {
+        let mut outcomes = Outcomes::of(s);
+        for slot in events {
+            outcomes = outcomes.with(slot.event, slot.decision);
+        }
+        outcomes
+    }
+
     // The outcomes with one event more in progress, the newest. Its guard is asked on each way, next to what it does to the range: the compiler takes the event apart once for both.
     pub(crate) fn with(self, event: Event, decision: Decision) -> Outcomes
         requires { self.number ≤ 128 }
         ensures { (s : State) (xs : List RuleSlot) (t : ℕ) (g : Filed) → Knows s xs self → Knows s (xs ++ (slot t g event (decision_of decision) ∷ [])) result }
     {
-        let range = self.range;
-        let first = self.first;
         if decision.is_undecided() {
             Outcomes {
-                guarded: self.guarded & range.every(event),
-                range: range.perhaps(event),
-                number: self.number + self.number,
-                first,
+                guarded: self.guarded & self.range.every(event),
+                range: self.range.perhaps(event),
+                number: 2 * self.number,
+                ..self
             }
         } else {
             Outcomes {
-                guarded: self.guarded & range.every(event),
-                range: range.after(event),
-                number: self.number,
-                first: event.effect(first),
+                guarded: self.guarded & self.range.every(event),
+                range: self.range.after(event),
+                first: event.effect(self.first),
+                ..self
             }
         }
     }
 
     // The decision on a request with nothing held before it: held unweighed where no place is free in progress, else weighed (4.4 and 4.5).
-    pub(crate) fn decide(self, progressing: usize, event: Event) -> Weighing
-        ensures { Decides [] event progressing self result }
+    pub(crate) fn decide(&self, progressing: usize, event: Event) -> Weighing
+        ensures { Decides [] event progressing self.now result }
     {
         if Account::PROGRESS <= progressing {
             return Weighing::UNWEIGHED;
         }
-        let range = self.range;
-        let verdict = verdict_of(range.every(event), range.some(event));
+        let verdict = verdict_of(self.range.every(event), self.range.some(event));
         Weighing {
             verdict,
             weighed: self.number,
@@ -79,19 +87,18 @@ impl Outcomes {
     }
 
     // The reason of a rejection, the one in outcome 0 (4.7); 0 for any other verdict.
-    fn reason(self, verdict: Verdict, event: Event) -> u8
-        ensures { result ≡ reason_byte (reason_by (verdict_of verdict) (reason_of event self.first)) }
+    fn reason(&self, verdict: Verdict, event: Event) -> u8
+        ensures { result ≡ reason_byte (reason_by (verdict_of verdict) (reason_of event self.now.first)) }
     {
         match verdict {
-            Verdict::Accepted => 0,
+            Verdict::Accepted | Verdict::Held => 0,
             Verdict::Rejected => event.reason_byte(self.first),
-            Verdict::Held => 0,
         }
     }
 
     // The decision on a request behind those held: held unweighed if there are any.
-    pub(crate) fn decide_behind(self, holding: usize, progressing: usize, event: Event) -> Weighing
-        ensures { (requests : List RuleSlot) → holding ≡ length requests → Decides requests event progressing self result }
+    pub(crate) fn decide_behind(&self, holding: usize, progressing: usize, event: Event) -> Weighing
+        ensures { (requests : List RuleSlot) → holding ≡ length requests → Decides requests event progressing self.now result }
     {
         if 0 < holding {
             return Weighing::UNWEIGHED;
@@ -99,33 +106,14 @@ impl Outcomes {
         self.decide(progressing, event)
     }
 
-    // Whether a request with nothing held before it is held.
-    pub(crate) fn stays_held(self, progressing: usize, event: Event) -> bool
-        ensures { StaysHeld event progressing self result }
+    // Whether the oldest request held, if there is one, stays held (6.7).
+    pub(crate) fn oldest_stays_held(&self, progressing: usize, requests: &[Slot]) -> bool
+        ensures { StaysHeld requests.now progressing self.now result }
     {
-        let weighing = self.decide(progressing, event);
-        let verdict = weighing.verdict;
-        verdict.is_held()
-    }
-}
-
-impl Account {
-    // What is known of the outcomes of the events in progress, an event at a time.
-    pub(crate) fn outcomes(&self) -> Outcomes
-        requires { self.now.progressing ≤ places }
-        ensures { Knows self.now.state (used self.now.progress self.now.progressing) result }
-    {
-        let state = self.state;
-        let mut outcomes = Outcomes::of(state);
-        let mut at = 0;
-        while at < self.progressing {
-            let slot = self.progress[at];
-            let event = slot.event;
-            let decision = slot.decision;
-            outcomes = outcomes.with(event, decision);
-            at += 1;
+        match requests {
+            [oldest, ..] => self.decide(progressing, oldest.event).verdict.is_held(),
+            [] => true,
         }
-        outcomes
     }
 }
 
@@ -133,11 +121,9 @@ impl Account {
 fn verdict_of(every: bool, some: bool) -> Verdict
     ensures { result ≡ verdict_by every some }
 {
-    if every {
-        return Verdict::Accepted;
+    match (every, some) {
+        (true, _) => Verdict::Accepted,
+        (false, true) => Verdict::Held,
+        (false, false) => Verdict::Rejected,
     }
-    if some {
-        return Verdict::Held;
-    }
-    Verdict::Rejected
 }

@@ -24,16 +24,13 @@ impl Account {
         if !self.in_order() {
             return Err(Refusal::NotInOrder);
         }
-        let state = self.state;
         let mut reached = Reached {
-            state,
+            state: self.state,
             left: number,
         };
-        let mut at = 0;
-        while at < self.progressing {
-            let slot = self.progress[at];
-            reached = reached.past(slot);
-            at += 1;
+        let (events, _) = self.progress.split_at(self.progressing);
+        for slot in events {
+            reached = reached.past(*slot);
         }
         if 0 < reached.left {
             return Err(Refusal::NoSuchOutcome);
@@ -50,27 +47,20 @@ impl Reached {
     fn past(self, slot: Slot) -> Reached
         ensures { result ≡ followed self slot }
     {
-        let state = self.state;
-        let left = self.left;
-        let event = slot.event;
-        let decision = slot.decision;
-        let applied = event.effect(state);
-        if decision.is_undecided() {
-            if left % 2 == 1 {
-                Reached {
-                    state: applied,
-                    left: left / 2,
-                }
-            } else {
-                Reached {
-                    state,
-                    left: left / 2,
-                }
+        let applied = slot.event.effect(self.state);
+        if slot.decision.is_undecided() {
+            Reached {
+                state: if self.left % 2 == 1 {
+                    applied
+                } else {
+                    self.state
+                },
+                left: self.left / 2,
             }
         } else {
             Reached {
                 state: applied,
-                left,
+                ..self
             }
         }
     }

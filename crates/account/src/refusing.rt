@@ -1,21 +1,19 @@
-// The refusals of request, commit and abort, in their order (docs/REGISTER.md, 10.1).
+// The refusals of request, commit and abort by what judging found, in their order (docs/REGISTER.md, 10.1).
 ghost use Rattle.std.specs.Prelude.{◌≡◌};
-ghost use Rattle.account.specs.inside.Judged.{waits, is_named, commit_answer, abort_answer};
+ghost use Rattle.account.specs.inside.Judged.{commit_answer, abort_answer};
 ghost use Rattle.account.specs.inside.First.{request_answer};
 
 use crate::Account;
-use crate::judging::Judged;
+use crate::judging::{Found, Judged};
+use filing::Slot;
 use refusal::Refusal;
 
 impl Judged {
     // Whether a request is taken, with so many requests held: not where the account has the transaction already, then not where no place to hold is left.
     pub(crate) fn for_request(&self, holding: usize) -> Result<(), Refusal>
-        ensures { result ≡ request_answer self.now holding }
+        ensures { result ≡ request_answer self.now.found holding }
     {
-        if !self.in_order {
-            return Err(Refusal::NotInOrder);
-        }
-        if self.is_named() {
+        if self.found.is_some() {
             return Err(Refusal::KnownTransaction);
         }
         if Account::HELD <= holding {
@@ -24,52 +22,27 @@ impl Judged {
         Ok(())
     }
 
-    // Whether a commit is taken: not where the account does not have the transaction, then not if it is held, not if it is committed.
-    pub(crate) fn for_commit(&self) -> Result<(), Refusal>
-        ensures { result ≡ commit_answer self.now }
+    // The place of the event that is committed: none where the account does not have the transaction, then none if it is held, none if it is committed.
+    pub(crate) fn for_commit(&self) -> Result<usize, Refusal>
+        ensures { result ≡ commit_answer self.now.found }
     {
-        if !self.in_order {
-            return Err(Refusal::NotInOrder);
+        match self.found {
+            None => Err(Refusal::UnknownTransaction),
+            Some(Found::OnHold(_)) => Err(Refusal::HeldTransaction),
+            Some(Found::InProgress(at, slot)) if slot.decision.is_undecided() => Ok(at),
+            Some(Found::InProgress(..)) => Err(Refusal::CommittedAlready),
         }
-        if !self.is_named() {
-            return Err(Refusal::UnknownTransaction);
-        }
-        if self.waits() {
-            return Err(Refusal::HeldTransaction);
-        }
-        if !self.slot.decision.is_undecided() {
-            return Err(Refusal::CommittedAlready);
-        }
-        Ok(())
     }
 
-    // Whether an abort is taken: not where the account does not have the transaction, then not if it is committed.
-    pub(crate) fn for_abort(&self) -> Result<(), Refusal>
-        ensures { result ≡ abort_answer self.now }
+    // What is dropped: nothing where the account does not have the transaction, then nothing if it is committed.
+    pub(crate) fn for_abort(&self) -> Result<Slot, Refusal>
+        ensures { result ≡ abort_answer self.now.found }
     {
-        if !self.in_order {
-            return Err(Refusal::NotInOrder);
+        match self.found {
+            None => Err(Refusal::UnknownTransaction),
+            Some(Found::OnHold(slot)) => Ok(slot),
+            Some(Found::InProgress(_, slot)) if slot.decision.is_undecided() => Ok(slot),
+            Some(Found::InProgress(..)) => Err(Refusal::CommittedBefore),
         }
-        if !self.is_named() {
-            return Err(Refusal::UnknownTransaction);
-        }
-        if !self.slot.decision.is_undecided() {
-            return Err(Refusal::CommittedBefore);
-        }
-        Ok(())
-    }
-
-    // Whether the transaction is held.
-    fn waits(&self) -> bool
-        ensures { result ≡ waits self.now }
-    {
-        self.request < Account::PLACES
-    }
-
-    // Whether the account has the transaction, in progress or held.
-    fn is_named(&self) -> bool
-        ensures { result ≡ is_named self.now }
-    {
-        (self.event < Account::PLACES) | self.waits()
     }
 }

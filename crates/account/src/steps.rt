@@ -1,14 +1,16 @@
 // The steps of an account: request, commit and abort, and what follows every commit and abort (docs/REGISTER.md, 4.6 and 5).
 // Each works on the account in place, with its loop in its own body.
-ghost use Rattle.std.specs.Prelude.{◌≡◌, ◌≤◌, ◌+◌};
+ghost use Rattle.std.specs.Prelude.{◌≡◌, ◌≤◌, ◌+◌, length, map};
 ghost use Rattle.rule.specs.Rule.{request, commit, abort};
-ghost use Rattle.filing.specs.Slots.{places};
+ghost use Rattle.rule.specs.Step.{without};
+ghost use Rattle.filing.specs.Slots.{places, slot_of};
 ghost use Rattle.filing.specs.Entries.{most};
+ghost use Rattle.account.specs.Places.{padded};
 ghost use Rattle.account.specs.First.{step_of};
-ghost use Rattle.account.specs.inside.Taken.{WithoutEvent, WithoutRequest};
 ghost use Rattle.account.specs.inside.First.{Settles, Drains};
 
 use crate::Account;
+use crate::outcomes::Outcomes;
 use events::Event;
 use filing::{Decision, Entries, Entry, Filed, Slot, Verdict};
 use refusal::Refusal;
@@ -24,7 +26,7 @@ impl Account {
         ensures answer { result ≡ (step_of self.old (request transaction filed event)).answer }
         ensures account { self.new ≡ (step_of self.old (request transaction filed event)).account }
     {
-        let judged = self.judge(transaction);
+        let judged = self.judge(transaction)?;
         judged.for_request(self.holding)?;
         let weighing = judged
             .outcomes
@@ -54,9 +56,9 @@ impl Account {
         ensures answer { result ≡ (step_of self.old (commit transaction filed)).answer }
         ensures account { self.new ≡ (step_of self.old (commit transaction filed)).account }
     {
-        let judged = self.judge(transaction);
-        judged.for_commit()?;
-        Ok(self.settle(judged.event, Entry::noted(transaction, filed)))
+        let at = self.judge(transaction)?.for_commit()?;
+        self.progress[at].decision = Decision::Committed;
+        Ok(self.settle(Entry::noted(transaction, filed)))
     }
 
     // An abort: refused, or the event or the request is dropped.
@@ -64,75 +66,29 @@ impl Account {
         ensures answer { result ≡ (step_of self.old (abort transaction filed)).answer }
         ensures account { self.new ≡ (step_of self.old (abort transaction filed)).account }
     {
-        let judged = self.judge(transaction);
-        judged.for_abort()?;
-        self.drop_event(transaction);
-        self.drop_request(transaction);
-        Ok(self.settle(Account::PLACES, Entry::dropped(judged.slot)))
+        let slot = self.judge(transaction)?.for_abort()?;
+        self.progressing = drop_from(&mut self.progress[..self.progressing], transaction);
+        self.holding = drop_from(&mut self.held[..self.holding], transaction);
+        Ok(self.settle(Entry::dropped(slot)))
     }
 
-    // Drops the event in progress of that transaction: the younger ones move up.
-    fn drop_event(&mut self, transaction: u32)
-        requires { self.old.progressing ≤ places }
-        ensures { WithoutEvent self.old transaction self.new }
-    {
-        let mut left = 0;
-        let mut at = 0;
-        while at < self.progressing {
-            let slot = self.progress[at];
-            self.progress[at] = Slot::BLANK;
-            if transaction != slot.transaction {
-                self.progress[left] = slot;
-                left += 1;
-            }
-            at += 1;
-        }
-        self.progressing = left;
-    }
-
-    // Drops the held request of that transaction: the younger ones move up.
-    fn drop_request(&mut self, transaction: u32)
-        requires { self.old.holding ≤ places }
-        ensures { WithoutRequest self.old transaction self.new }
-    {
-        let mut left = 0;
-        let mut at = 0;
-        while at < self.holding {
-            let slot = self.held[at];
-            self.held[at] = Slot::BLANK;
-            if transaction != slot.transaction {
-                self.held[left] = slot;
-                left += 1;
-            }
-            at += 1;
-        }
-        self.holding = left;
-    }
-
-    // What follows every commit and abort: the event at `marked`, if that is a place, is committed; the committed oldest are applied, then the requests held are looked at.
-    // `first` is the call's own entry.
-    fn settle(&mut self, marked: usize, first: Entry) -> Entries
+    // What follows every commit and abort: the committed oldest are applied, then the requests held are looked at. `first` is the call's own entry.
+    fn settle(&mut self, first: Entry) -> Entries
         requires { (self.old.progressing ≤ places) × (self.old.holding ≤ places) }
-        ensures { Settles self.old marked first self.new result }
+        ensures { Settles self.old first self.new result }
     {
-        if marked < Account::PLACES {
-            self.progress[marked] = self.progress[marked].committed();
-        }
         let mut entries = Entries::only(first);
         let mut ended = 0;
-        let mut at = 0;
-        while at < self.progressing {
+        for at in 0..self.progressing {
             let slot = self.progress[at];
             self.progress[at] = Slot::BLANK;
             if (at == ended) & !slot.decision.is_undecided() {
                 self.state = slot.event.effect(self.state);
-                entries.at[entries.count] = Entry::applied(slot, self.state.balance);
-                entries.count += 1;
+                entries.push(Entry::applied(slot, self.state.balance));
                 ended += 1;
             } else {
                 self.progress[at - ended] = slot;
             }
-            at += 1;
         }
         self.progressing -= ended;
         if 0 < self.holding {
@@ -146,10 +102,9 @@ impl Account {
         requires { (self.old.progressing ≤ places) × (self.old.holding ≤ places) × (entries.old.count + self.old.holding ≤ most) }
         ensures { Drains self.old entries.old self.new entries.new }
     {
-        let mut outcomes = self.outcomes();
+        let mut outcomes = Outcomes::after(self.state, &self.progress[..self.progressing]);
         let mut voted = 0;
-        let mut at = 0;
-        while at < self.holding {
+        for at in 0..self.holding {
             let slot = self.held[at];
             let weighing = outcomes.decide(self.progressing, slot.event);
             self.held[at] = Slot::BLANK;
@@ -159,14 +114,29 @@ impl Account {
                     self.progressing += 1;
                     outcomes = outcomes.with(slot.event, Decision::Undecided);
                 }
-                entries.at[entries.count] = Entry::voted(slot, weighing);
-                entries.count += 1;
+                entries.push(Entry::voted(slot, weighing));
                 voted += 1;
             } else {
                 self.held[at - voted] = slot;
             }
-            at += 1;
         }
         self.holding -= voted;
     }
+}
+
+// Drops a transaction from the used places of a row: the younger ones move up, and blanks stand behind them. How many are left.
+fn drop_from(row: &mut [Slot], transaction: u32) -> usize
+    ensures left { result ≡ length (without transaction (map slot_of row.old)) }
+    ensures row { row.new ≡ padded (length row.old) (without transaction (map slot_of row.old)) }
+{
+    let mut left = 0;
+    for at in 0..row.len() {
+        let slot = row[at];
+        row[at] = Slot::BLANK;
+        if transaction != slot.transaction {
+            row[left] = slot;
+            left += 1;
+        }
+    }
+    left
 }

@@ -1,4 +1,5 @@
 pub mod Booleans
+pub mod KindNumbers
 pub mod Lengths
 pub mod Shapes
 pub mod Stored

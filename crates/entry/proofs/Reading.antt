@@ -1,11 +1,14 @@
 -- The ways out of the reader of an entry, one law each: what the tests that led there say of the bytes picks the case of the definition.
 -- Assumes nothing.
 use Prim.Native.Nat.{ℕ, ◌≤◌, ◌<◌}
+use native.Mathlib.Nat.{zero-add}
 use native.Mathlib.Omega.{arith}
 use mathlib.Core.Path.{◌≡◌, refl, sym, ◌∙◌}
-use mathlib.Core.Bool.{true, cond, ◌||◌}
-use mathlib.Core.List.{List, map}
-use Rattle.std.specs.Prelude.{None}
+use mathlib.Core.Bool.{Bool, true, false, cond, ◌||◌}
+use mathlib.Core.List.{List, [], ◌∷◌, map}
+use Rattle.std.specs.Prelude.{Option, Some, None, Result, Ok, Err, slice_get}
+use Rattle.std.specs.Result.{result_ok}
+use Rattle.refusal.specs.declared.Refusal.{Refusal}
 use lib.Dec.{eqb, lit<}
 use lib.ListN.{length, get_or}
 use Rattle.filing.specs.declared.Entry.{Entry}
@@ -19,9 +22,15 @@ use Rattle.layout.proofs.Numbers.{number_at-fits}
 use Rattle.layout.proofs.Tables.{Each, present, unknown}
 use Rattle.layout.proofs.Heading.{filed_at}
 use Rattle.layout.proofs.Shapes.{shape-whole}
-use Rattle.layout.proofs.Reading.{short_row, elsewhere-row, taken-row, shape-unknown, shape-short, row_at, shape-elsewhere, shape-taken}
+use Rattle.layout.proofs.Reading.{short_row, elsewhere-row, taken-row, shape-short, row_at, shape-elsewhere, shape-taken}
 use Rattle.entry.specs.Bytes.{entry_rows, told_by, entry_by, entry_from}
-use Rattle.entry.specs.Answers.{found_as, event_fits, then_fits, entry_reader, read_of}
+use Rattle.entry.specs.Answers.{found_as, event_fits, told_in, then_fits, entry_reader, read_of}
+use Rattle.entry.specs.declared.Found.{Found}
+use Rattle.entry.specs.declared.kinds.Kind.{Kind}
+use Rattle.entry.specs.Kinds.{number_in, kind_numbered}
+use Rattle.entry.proofs.KindNumbers.{kind-known, kind-unknown, kind-long}
+use Rattle.filing.specs.declared.Told.{Told}
+use Rattle.layout.specs.Heading.{filed_from}
 use Rattle.entry.proofs.Shapes.{rows-hold}
 
 -- the entry that the bytes hold by its places: the number that follows the event, of the width that the kind gives it,
@@ -50,15 +59,15 @@ module _ (bytes : List ℕ) (kind : ℕ) (p : 0 < whole_of (row_of_kind entry_ro
       (λ (k : ℕ). then_fits (numbers_at (then_of (row_of_kind entry_rows k)) bytes 11) ≡ cond (eqb k 20) true (event_fits (number_at bytes 11 1) (number_at bytes 12 4)))
       entry_rows kind (refl, (refl, (refl, (refl, (refl, (refl, (refl, tt))))))) p
 
-  -- the same by the row's widths: it has no event where the width after the heading is 0
+  -- the same by the numbers
   fits-row : then_fits (numbers_at (then_of (row_of_kind entry_rows kind)) bytes 11)
-      ≡ (eqb (get_or (shape_of (row_of_kind entry_rows kind)).widths 4 0) 0
+      ≡ (eqb kind 20
       || event_fits (get_or (numbers_at (widths_of (row_of_kind entry_rows kind)) bytes 0) 4 0) (get_or (numbers_at (widths_of (row_of_kind entry_rows kind)) bytes 0) 5 0))
   unfolding row_of_kind entry_rows numbers_at
   fits-row =
       present
       (λ (k : ℕ). then_fits (numbers_at (then_of (row_of_kind entry_rows k)) bytes 11)
-      ≡ (eqb (get_or (shape_of (row_of_kind entry_rows k)).widths 4 0) 0
+      ≡ (eqb k 20
       || event_fits (get_or (numbers_at (widths_of (row_of_kind entry_rows k)) bytes 0) 4 0) (get_or (numbers_at (widths_of (row_of_kind entry_rows k)) bytes 0) 5 0)))
       entry_rows kind (refl, (refl, (refl, (refl, (refl, (refl, (refl, tt))))))) p
 
@@ -110,30 +119,64 @@ module _ (bytes : List ℕ) (kind whole : ℕ) (k : kind ≡ number_at bytes 0 1
         ∙ taken-row entry_reader found bytes (numbers_at (widths_of found) bytes 0) positive (rw w at h) refl a
         ∙ rw (fits_read bytes kind positive, told-read bytes kind positive k, w, ← k)
 
--- by the shape and the numbers that the code reads
-module _ {kind : ℕ} {shape : Shape} (bytes : List ℕ) (k : kind ≡ number_at bytes 0 1) (s : shape ≡ shape_of (row_of_kind entry_rows kind)) where
-  pub code-unknown : shape.whole ≡ 0 → read_of bytes ≡ None
-  code-unknown z = by_kind bytes kind k ∙ shape-unknown entry_rows kind bytes s entry_reader every-length z
+-- the first byte is the number of the kind
+first-number : (bytes : List ℕ) {first : ℕ} → Some first ≡ slice_get bytes 0 → first ≡ number_at bytes 0 1
+unfolding number_at
+first-number [] f = cc
+first-number (b ∷ bs) f = cc (zero-add b)
 
-  pub code-short : length bytes < shape.whole → read_of bytes ≡ None
-  code-short h = by_kind bytes kind k ∙ shape-short entry_rows kind bytes s entry_reader h
+kind-read : (first : ℕ) (r : Result Kind Refusal) {kind : Kind} → r ≡ kind_numbered first → Some kind ≡ result_ok r → number_in kind ≡ first
+kind-read first (Ok j) {kind = kind} t e = let same : kind ≡ j = cc in rw same (kind-known first j (sym t))
+kind-read first (Err r) t e = cc
 
-  module _ (p : shape.whole ≡ 0 → ⊥) (h : shape.whole ≤ length bytes) {numbers : List ℕ} (n : numbers ≡ numbers_at (map bytes_in shape.widths) bytes 0) where
-    positive-row : 0 < whole_of (row_of_kind entry_rows kind)
-    positive-row = rw (← shape-whole (row_of_kind entry_rows kind), ← s) (omega arith)
+-- what is read of numbers by what they tell
+abbrev pub found_telling : (numbers : List ℕ) (kind whole : ℕ) → Option Told → Option (Found × ℕ)
+found_telling numbers kind whole None = None
+found_telling numbers kind whole (Some told) =
+    found_as (record { transaction = get_or numbers 1 0; filed = filed_from numbers; told = told }) kind (get_or numbers 2 0) whole
 
-    pub code-reason : AreBytes bytes → get_or numbers 7 0 < 256
-    code-reason b = rw (row_at entry_rows kind bytes s p rows-hold n 7) (reason-fits bytes kind positive-row b)
+-- by the first byte, the kind, the shape and the numbers that the code reads
+module _ (bytes : List ℕ) {first : ℕ} (f : Some first ≡ slice_get bytes 0) {r : Result Kind Refusal} (t : r ≡ kind_numbered first) where
+  pub code-unknown : None ≡ result_ok r → read_of bytes ≡ None
+  code-unknown e = go r t e
+    where
+      go : (r : Result Kind Refusal) → r ≡ kind_numbered first → None ≡ result_ok r → read_of bytes ≡ None
+      go (Ok j) t e = cc
+      go (Err q) t e = by_kind bytes first (first-number bytes f) ∙ rw (kind-unknown first q (sym t))
 
-    pub code-elsewhere : last_account < get_or numbers 2 0 → read_of bytes ≡ None
-    code-elsewhere a = by_kind bytes kind k ∙ shape-elsewhere entry_rows kind bytes s p rows-hold n entry_reader h a
+  module _ {kind : Kind} (e : Some kind ≡ result_ok r) {shape : Shape} (s : shape ≡ shape_of (row_of_kind entry_rows (number_in kind))) where
+    k : number_in kind ≡ number_at bytes 0 1
+    k = kind-read first r t e ∙ first-number bytes f
 
-    pub code-fitting : get_or numbers 2 0 ≤ last_account
-        → read_of bytes
-        ≡ cond (eqb (get_or shape.widths 4 0) 0 || event_fits (get_or numbers 4 0) (get_or numbers 5 0)) (found_as (entry_by kind numbers) kind (get_or numbers 2 0) shape.whole) None
-    unfolding numbers_at
-    code-fitting a =
-        let at = row_at entry_rows kind bytes s p rows-hold n in
-        by_kind bytes kind k
-        ∙ shape-taken entry_rows kind bytes s p rows-hold n entry_reader h a
-        ∙ rw (at 1, at 2, at 3, at 4, at 5, at 6, at 7, fits-row bytes kind positive-row, ← s, ← k)
+    pub code-short : length bytes < shape.whole → read_of bytes ≡ None
+    code-short h = by_kind bytes (number_in kind) k ∙ shape-short entry_rows (number_in kind) bytes s entry_reader h
+
+    module _ (h : shape.whole ≤ length bytes) {numbers : List ℕ} (n : numbers ≡ numbers_at (map bytes_in shape.widths) bytes 0) where
+      long : shape.whole ≡ 0 → ⊥
+      long z = let w : shape.whole ≡ whole_of (row_of_kind entry_rows (number_in kind)) = rw s (shape-whole (row_of_kind entry_rows (number_in kind))) in omega (arith, kind-long kind)
+
+      pub code-reason : AreBytes bytes → get_or numbers 7 0 < 256
+      code-reason b = rw (row_at entry_rows (number_in kind) bytes s long rows-hold n 7) (reason-fits bytes (number_in kind) (kind-long kind) b)
+
+      pub code-elsewhere : last_account < get_or numbers 2 0 → read_of bytes ≡ None
+      code-elsewhere a = by_kind bytes (number_in kind) k ∙ shape-elsewhere entry_rows (number_in kind) bytes s long rows-hold n entry_reader h a
+
+      code-fitting : get_or numbers 2 0 ≤ last_account
+          → read_of bytes
+          ≡ cond (eqb (number_in kind) 20 || event_fits (get_or numbers 4 0) (get_or numbers 5 0))
+          (found_as (entry_by (number_in kind) numbers) (number_in kind) (get_or numbers 2 0) shape.whole) None
+      unfolding numbers_at
+      code-fitting a =
+          let at = row_at entry_rows (number_in kind) bytes s long rows-hold n in
+          by_kind bytes (number_in kind) k
+          ∙ shape-taken entry_rows (number_in kind) bytes s long rows-hold n entry_reader h a
+          ∙ rw (at 1, at 2, at 3, at 4, at 5, at 6, at 7, fits-row bytes (number_in kind) (kind-long kind), ← k)
+
+      pub code-told : get_or numbers 2 0 ≤ last_account → read_of bytes ≡ found_telling numbers (number_in kind) shape.whole (told_in (number_in kind) numbers)
+      code-told a = code-fitting a ∙ go (eqb (number_in kind) 20 || event_fits (get_or numbers 4 0) (get_or numbers 5 0))
+        where
+          go : (b : Bool)
+              → cond b (found_as (entry_by (number_in kind) numbers) (number_in kind) (get_or numbers 2 0) shape.whole) None
+              ≡ found_telling numbers (number_in kind) shape.whole (cond b (Some (entry_by (number_in kind) numbers).told) None)
+          go true = refl
+          go false = refl

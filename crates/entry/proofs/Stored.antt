@@ -1,15 +1,16 @@
 -- Entries stored one after the other are one run of stores, as long as their lengths together. By induction on the list of entries;
 -- one entry more is one step of the loops that count and store them.
 -- Assumes nothing.
-use Prim.Native.Nat.{ℕ, ◌+◌, ◌*◌, ◌≤◌, ◌<◌}
+use Prim.Native.Nat.{ℕ, ◌+◌, ◌-◌, ◌*◌, ◌≤◌, ◌<◌}
 use native.Mathlib.Nat.{add_assoc, zero-add, add-zero, mul-suc}
 use native.Mathlib.Numerals.{add-one}
 use native.Mathlib.Omega.{arith}
 use mathlib.Core.Path.{◌≡◌, refl, sym, ◌∙◌}
 use mathlib.Core.List.{List, [], ◌∷◌, ◌++◌, map, append-nil, append_assoc}
-use lib.ListN.{length, get_or, take, drop, length-append}
-use lib.Seq.{sets, take-suc}
-use Rattle.std.proofs.lemmas.List.{take-append-drop}
+use lib.ListN.{length, get_or, take, drop, length-append, length-drop}
+use lib.Seq.{sets, sets-eq, take-suc}
+use borrow.Rule.Slice.PartMut.{put_mid, mid_of, post_of}
+use Rattle.std.proofs.lemmas.List.{take-append-drop, take_all, drop_all, drop-drop}
 use Rattle.events.specs.declared.Event.TheVariants.{Open}
 use Rattle.filing.specs.declared.Verdict.TheVariants.{Accepted}
 use Rattle.filing.specs.declared.Told.{Told}
@@ -53,8 +54,17 @@ row-bytes account e =
     let whole : 0 < length_of_told told = rw (← (shaped told).whole) (omega arith) in
     shape-written entry_rows (kind_of told) rows-hold whole (numbers_of account e) (rw (shaped told).paired)
 
+-- a run stored at the beginning of what lies from `at` on is stored from there on
+pub stored-behind : (bytes l : List ℕ) (at : ℕ) → at + length bytes ≤ length l → put_mid at (length l - at) l (sets (mid_of at (length l - at) l) 0 bytes) ≡ sets l at bytes
+stored-behind bytes l at h =
+    let rest : length (drop at l) ≤ length l - at = rw length-drop (omega arith) in
+    let fits : 0 + length bytes ≤ length (drop at l) = rw length-drop (omega arith) in
+    let mid : mid_of at (length l - at) l ≡ drop at l = take_all (length l - at) (drop at l) rest in
+    let behind : post_of at (length l - at) l ≡ [] = drop_all (length l - at) (drop at l) rest in
+    rw (mid, behind, append-nil, sets-eq bytes (drop at l) 0 fits, sets-eq bytes l at h, zero-add, drop-drop, append_assoc (take at l) bytes (drop (at + length bytes) l))
+
 -- no entry has more than 40 bytes
-pub short-told : (told : Told) → length_of_told told ≤ 40
+short-told : (told : Told) → length_of_told told ≤ 40
 unfolding length_of_told entry_rows
 short-told told = longest 40 entry_rows (kind_of told) (omega arith)
 
@@ -88,9 +98,12 @@ module _ (places : List Entry) (i : ℕ) (h : i < length places) where
   unfolding bytes_of_entries
   entries-more account = rw (one_more, entries-append, append-nil)
 
-  pub stored_more : (account at : ℕ) (l l₁ l₂ : List ℕ) → at ≡ wholes_of (take i places) → l₁ ≡ sets l 0 (bytes_of_entries account (take i places))
-      → l₂ ≡ sets l₁ at (bytes_of_entry account (get_or places i no_entry)) → l₂ ≡ sets l 0 (bytes_of_entries account (take (i + 1) places))
-  stored_more account at l l₁ l₂ a e₁ e₂ =
+  pub stored_more : (account at : ℕ) (l l₁ l₂ : List ℕ) → at ≡ wholes_of (take i places) → wholes_of places ≤ length l₁ → l₁ ≡ sets l 0 (bytes_of_entries account (take i places))
+      → l₂ ≡ sets (mid_of at (length l₁ - at) l₁) 0 (bytes_of_entry account (get_or places i no_entry))
+      → put_mid at (length l₁ - at) l₁ l₂ ≡ sets l 0 (bytes_of_entries account (take (i + 1) places))
+  stored_more account at l l₁ l₂ a room e₁ e₂ =
+      let bytes = bytes_of_entry account (get_or places i no_entry) in
+      let fits : at + length bytes ≤ length l₁ = rw length-entry (omega (arith, wholes-next)) in
       rw (entries-more account)
-      (sets_more (bytes_of_entries account (take i places)) (bytes_of_entry account (get_or places i no_entry)) l l₁ l₂ 0 at
-      (length-entries account (take i places) ∙ sym a) e₁ (rw zero-add e₂))
+      (sets_more (bytes_of_entries account (take i places)) bytes l l₁ (put_mid at (length l₁ - at) l₁ l₂) 0 at
+      (length-entries account (take i places) ∙ sym a) e₁ (rw (zero-add, e₂) (stored-behind bytes l₁ at fits)))

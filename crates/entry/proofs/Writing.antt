@@ -1,6 +1,7 @@
 -- The ways out of the writer of entries, one law each.
 -- Assumes nothing.
 use Prim.Native.Nat.{ℕ, ◌≤◌, ◌<◌}
+use native.Mathlib.Omega.{arith}
 use mathlib.Core.Path.{◌≡◌, ◌∙◌}
 use mathlib.Core.List.{List}
 use borrow.Author.Tests.{lt-ltb, le-ltb}
@@ -20,9 +21,9 @@ unfolding write_of
 write-small entries account l h = rw (lt-ltb (length l) longest_call h)
 
 module _ (entries : List Entry) (account : ℕ) (l : List ℕ) (room : longest_call ≤ length l) where
-  pub write-short : length l < wholes_of entries → write_of entries account l ≡ refused_with NoRoom l
+  pub write-short : (wholes_of entries ≤ length l → ⊥) → write_of entries account l ≡ refused_with NoRoom l
   unfolding write_of
-  write-short h = rw (le-ltb (length l) longest_call room, length-entries account entries, lt-ltb (length l) (wholes_of entries) h)
+  write-short h = rw (le-ltb (length l) longest_call room, length-entries account entries, lt-ltb (length l) (wholes_of entries) (omega arith))
 
   pub write-stored : (l' : List ℕ) → wholes_of entries ≤ length l → l' ≡ sets l 0 (bytes_of_entries account entries)
       → (Ok (wholes_of entries) ≡ (write_of entries account l).answer) × (l' ≡ (write_of entries account l).buffer)

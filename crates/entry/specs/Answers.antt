@@ -2,6 +2,9 @@
 -- Assumes nothing.
 use Rattle.std.specs.Prelude.{ℕ, Bool, true, cond, not, ◌&&◌, ◌||◌, List, [], ◌∷◌, eqb, leb, ltb, length, get_or, drop, Option, Some, None}
 use Rattle.std.proofs.Math.Option as math
+use Rattle.events.specs.declared.Event.{Event}
+use Rattle.events.specs.Kinds.{event_of}
+use Rattle.filing.specs.declared.Told.{Told}
 use Rattle.filing.specs.declared.Entry.{Entry}
 use Rattle.layout.specs.Number.{number_at}
 use Rattle.layout.specs.Fields.{row_of_kind}
@@ -9,7 +12,7 @@ use Rattle.layout.specs.Reading.{Reader, read_row}
 use Rattle.layout.specs.Writes.{Wrote, wrote_over, refused_with}
 use Rattle.refusal.specs.declared.Refusal.TheVariants.{NoRoom}
 use Rattle.entry.specs.declared.Found.{Found}
-use Rattle.entry.specs.Bytes.{entry_rows, bytes_of_entries, entry_from}
+use Rattle.entry.specs.Bytes.{entry_rows, bytes_of_entries, told_by, entry_from}
 
 -- no call writes more: 11 for the commit, 20 for each of eight applied, 19 for each of eight rejections (9.5)
 abbrev pub longest_call : ℕ
@@ -40,6 +43,17 @@ found_as e kind account whole = Some (record { entry = e; kind = kind; account =
 -- an event kind 1 to 4, and with a Close no amount but 0 (9.2)
 abbrev pub event_fits : (kind amount : ℕ) → Bool
 event_fits kind amount = leb 1 kind && leb kind 4 && (not (eqb kind 4) || eqb amount 0)
+
+-- the event of that kind and amount, if there is one
+abbrev pub event_in : (kind amount : ℕ) → Option Event
+event_in kind amount = cond (event_fits kind amount) (Some (event_of kind amount)) None
+
+-- what an entry of a kind 17 to 23 tells by these numbers, if its event is one: a commit noted has none
+abbrev pub told_in : (kind : ℕ) (numbers : List ℕ) → Option Told
+told_in kind numbers =
+    cond (eqb kind 20 || event_fits (get_or numbers 4 0) (get_or numbers 5 0))
+    (Some (told_by kind (event_of (get_or numbers 4 0) (get_or numbers 5 0)) (get_or numbers 6 0) (get_or numbers 7 0)))
+    None
 
 -- what follows the heading fits if it has no event, or one that fits
 abbrev pub then_fits : List ℕ → Bool

@@ -1,5 +1,6 @@
 pub mod Bytes
 pub mod Numbers
+pub mod Kinds
 pub mod Answers
 pub mod Inverse
 pub mod Longest

@@ -1,27 +1,127 @@
-// The table of entry kinds, and an entry as a row of numbers.
-ghost use Rattle.std.specs.Prelude.{◌<◌, ◌≡◌};
+// The kinds of entries, how each lies in bytes, and an entry as a row of numbers.
+ghost use Rattle.std.specs.Prelude.{◌<◌, ◌≡◌, get_or};
 ghost use Rattle.layout.specs.Fields.{row_of_kind};
 ghost use Rattle.layout.specs.Shapes.{padded, shape_of};
-ghost use Rattle.entry.specs.Bytes.{entry_rows, vote_kind, kind_of, numbers_of, verdict_by, told_by};
-ghost use Rattle.entry.specs.Numbers.{then_in, with_event, reason_only};
+ghost use Rattle.entry.specs.Answers.{event_in, told_in};
+ghost use Rattle.entry.specs.Bytes.{entry_rows, kind_of, numbers_of};
+ghost use Rattle.entry.specs.Kinds.{kind_numbered, number_in};
+ghost use Rattle.entry.specs.Numbers.{reason_only, then_in, voted_in, with_event};
 
 use events::Event;
 use filing::{Entry, Told, Verdict, Weighing};
 use layout::Shape;
+use refusal::Refusal;
 
-// The table of kinds: the heading; then event kind and amount; then outcomes weighed, or balance; then the reason of a rejection.
-pub(crate) fn shape_of(kind: u8) -> Shape
-    ensures { result ≡ shape_of (row_of_kind entry_rows kind) }
+// Each kind has its number, which stands in the first byte. A rejection was once written without its reason: that kind is read and not written.
+#[derive(Clone, Copy, PartialEq, Eq, Drop)]
+pub(crate) enum Kind {
+    Accepted = 17,
+    OlderRejected = 18,
+    Held = 19,
+    Noted = 20,
+    Applied = 21,
+    Dropped = 22,
+    Rejected = 23,
+}
+
+impl TryFrom<u8> for Kind {
+    type Error = Refusal;
+
+    ghost try_from_gives = { λ number r. r ≡ kind_numbered number };
+
+    fn try_from(number: u8) -> Result<Kind, Refusal> {
+        match number {
+            17 => Ok(Kind::Accepted),
+            18 => Ok(Kind::OlderRejected),
+            19 => Ok(Kind::Held),
+            20 => Ok(Kind::Noted),
+            21 => Ok(Kind::Applied),
+            22 => Ok(Kind::Dropped),
+            23 => Ok(Kind::Rejected),
+            _ => Err(Refusal::UnknownKind),
+        }
+    }
+}
+
+// The kind in which an entry that tells this is written.
+impl From<Told> for Kind {
+    ghost from_gives = { λ told kind. number_in kind ≡ kind_of told };
+
+    fn from(told: Told) -> Kind {
+        match told {
+            Told::Voted(_, weighing) => match weighing.verdict {
+                Verdict::Accepted => Kind::Accepted,
+                Verdict::Rejected => Kind::Rejected,
+                Verdict::Held => Kind::Held,
+            },
+            Told::Noted => Kind::Noted,
+            Told::Applied(..) => Kind::Applied,
+            Told::Dropped(_) => Kind::Dropped,
+        }
+    }
+}
+
+impl Kind {
+    // The number of the kind.
+    pub(crate) fn number(self) -> u8
+        ensures { result ≡ number_in self }
+    {
+        self as u8
+    }
+
+    // The heading; then event kind and amount; then outcomes weighed, or balance; then the reason of a rejection.
+    #[tactic(auto, unfolding(layout::specs::Fields::row_of_kind, crate::specs::Bytes::entry_rows))]
+    pub(crate) fn shape(self) -> Shape
+        ensures { result ≡ shape_of (row_of_kind entry_rows (number_in self)) }
+    {
+        match self {
+            Kind::Accepted | Kind::OlderRejected | Kind::Held => VOTE,
+            Kind::Rejected => REJECTED,
+            Kind::Noted => NOTED,
+            Kind::Applied => APPLIED,
+            Kind::Dropped => DROPPED,
+        }
+    }
+
+    // What an entry of the kind tells by its numbers, of which the reason is a byte; nothing where there is no such event.
+    #[tactic(auto, unfolding(crate::specs::Bytes::told_by, crate::specs::Bytes::verdict_by))]
+    pub(crate) fn told(self, numbers: [u32; layout::FIELDS]) -> Option<Told>
+        requires { get_or numbers 7 0 < 256 }
+        ensures { result ≡ told_in (number_in self) numbers }
+    {
+        match self {
+            Kind::Accepted => voted(Verdict::Accepted, numbers),
+            Kind::OlderRejected | Kind::Rejected => voted(Verdict::Rejected, numbers),
+            Kind::Held => voted(Verdict::Held, numbers),
+            Kind::Noted => Some(Told::Noted),
+            Kind::Applied => Some(Told::Applied(event(numbers[4], numbers[5])?, numbers[6])),
+            Kind::Dropped => Some(Told::Dropped(event(numbers[4], numbers[5])?)),
+        }
+    }
+}
+
+// The vote of that verdict by the numbers of its entry.
+fn voted(verdict: Verdict, numbers: [u32; layout::FIELDS]) -> Option<Told>
+    requires { get_or numbers 7 0 < 256 }
+    ensures { result ≡ voted_in verdict numbers }
+{
+    let weighing = Weighing {
+        verdict,
+        weighed: numbers[6],
+        reason: numbers[7] as u8,
+    };
+    Some(Told::Voted(event(numbers[4], numbers[5])?, weighing))
+}
+
+// The event of a kind and an amount, if there is one: a close has the amount 0.
+#[tactic(auto, unfolding(events::specs::Kinds::event_of))]
+fn event(kind: u32, amount: u32) -> Option<Event>
+    ensures { result ≡ event_in kind amount }
 {
     match kind {
-        17 => VOTE,
-        18 => VOTE,
-        19 => VOTE,
-        20 => NOTED,
-        21 => APPLIED,
-        22 => DROPPED,
-        23 => REJECTED,
-        _ => Shape::NONE,
+        1..=3 => Some(Event::of(kind as u8, amount)),
+        4 if amount == 0 => Some(Event::Close),
+        _ => None,
     }
 }
 
@@ -63,10 +163,9 @@ pub(crate) struct Then {
 pub(crate) fn numbers_of(entry: Entry, account: u16) -> [u32; layout::FIELDS]
     ensures { result ≡ padded (numbers_of account entry) }
 {
-    let told = entry.told;
-    let filed = entry.filed;
-    let then = then_of(told);
-    let mut numbers = layout::heading_numbers(told_kind(told), entry.transaction, account, filed);
+    let kind = Kind::from(entry.told).number();
+    let mut numbers = layout::heading_numbers(kind, entry.transaction, account, entry.filed);
+    let then = then_of(entry.told);
     numbers[4] = then.event;
     numbers[5] = then.amount;
     numbers[6] = then.number;
@@ -74,18 +173,13 @@ pub(crate) fn numbers_of(entry: Entry, account: u16) -> [u32; layout::FIELDS]
     numbers
 }
 
-// What follows the heading, 0 where there is no such number.
+// What follows the heading, 0 where there is no such number, as the row of numbers has it.
 fn then_of(told: Told) -> Then
     ensures { result ≡ then_in told }
 {
     match told {
         Told::Voted(event, weighing) => {
-            let verdict = weighing.verdict;
-            with_event(
-                event,
-                weighing.weighed,
-                reason_only(verdict, weighing.reason),
-            )
+            with_event(event, weighing.weighed, reason_only(weighing))
         }
         Told::Noted => Then {
             event: 0,
@@ -99,13 +193,12 @@ fn then_of(told: Told) -> Then
 }
 
 // The reason of a rejection; 0 for any other vote.
-fn reason_only(verdict: Verdict, reason: u8) -> u32
-    ensures { result ≡ reason_only verdict reason }
+fn reason_only(weighing: Weighing) -> u32
+    ensures { result ≡ reason_only weighing.verdict weighing.reason }
 {
-    match verdict {
-        Verdict::Accepted => 0,
-        Verdict::Rejected => reason as u32,
-        Verdict::Held => 0,
+    match weighing.verdict {
+        Verdict::Accepted | Verdict::Held => 0,
+        Verdict::Rejected => weighing.reason as u32,
     }
 }
 
@@ -118,62 +211,5 @@ fn with_event(event: Event, number: u32, reason: u32) -> Then
         amount: event.amount(),
         number,
         reason,
-    }
-}
-
-// The kind of an entry.
-pub(crate) fn told_kind(told: Told) -> u8
-    ensures { result ≡ kind_of told }
-{
-    match told {
-        Told::Voted(_, weighing) => {
-            let verdict = weighing.verdict;
-            vote_kind(verdict)
-        }
-        Told::Noted => 20,
-        Told::Applied(_, _) => 21,
-        Told::Dropped(_) => 22,
-    }
-}
-
-// The kind of a vote.
-fn vote_kind(verdict: Verdict) -> u8
-    ensures { result ≡ vote_kind verdict }
-{
-    match verdict {
-        Verdict::Accepted => 17,
-        Verdict::Rejected => 23,
-        Verdict::Held => 19,
-    }
-}
-
-// What an entry of a kind 17 to 23 tells.
-pub(crate) fn told_of(kind: u8, event: Event, number: u32, reason: u32) -> Told
-    requires { reason < 256 }
-    ensures { result ≡ told_by kind event number reason }
-{
-    match kind {
-        20 => Told::Noted,
-        21 => Told::Applied(event, number),
-        22 => Told::Dropped(event),
-        _ => Told::Voted(
-            event,
-            Weighing {
-                verdict: verdict_of(kind),
-                weighed: number,
-                reason: reason as u8,
-            },
-        ),
-    }
-}
-
-// The verdict of a vote of a kind 17 to 19 or 23.
-fn verdict_of(kind: u8) -> Verdict
-    ensures { result ≡ verdict_by kind }
-{
-    match kind {
-        17 => Verdict::Accepted,
-        19 => Verdict::Held,
-        _ => Verdict::Rejected,
     }
 }

@@ -1,10 +1,11 @@
 // The writer of entries.
-ghost use Rattle.std.specs.Prelude.{◌≡◌, ◌≤◌, leb};
+ghost use Rattle.std.specs.Prelude.{◌≡◌, ◌≤◌, ◌↔◌, IsTrue};
 ghost use Rattle.std.proofs.lemmas.List.Edits.{sets};
 ghost use Rattle.entry.specs.Bytes.{bytes_of_entry, length_of_told, wholes_of};
 ghost use Rattle.entry.specs.Answers.{write_of};
 
 use crate::kinds;
+use crate::kinds::Kind;
 use filing::Entry;
 use refusal::Refusal;
 
@@ -18,7 +19,7 @@ pub fn write_entries(entries: &[Entry], account: u16, buffer: &mut [u8]) -> Resu
     }
     let mut at = 0;
     for entry in entries {
-        at += put_entry(buffer, at, account, *entry);
+        at += put_entry(&mut buffer[at..], account, *entry);
     }
     Ok(at)
 }
@@ -28,14 +29,14 @@ const LONGEST_ENTRY: usize = 4 * layout::FIELDS;
 
 // Whether a buffer of that length has room for the entries; they are measured only where it has none for the longest of each.
 fn has_room(entries: &[Entry], length: usize) -> bool
-    ensures { result ≡ leb (wholes_of entries.now) length }
+    ensures { IsTrue result ↔ (wholes_of entries.now ≤ length) }
 {
     if entries.len() <= length / LONGEST_ENTRY {
         return true;
     }
     let mut left = length;
     for entry in entries {
-        let Some(rest) = left.checked_sub(told_length(*entry)) else {
+        let Some(rest) = left.checked_sub(length_of(*entry)) else {
             return false;
         };
         left = rest;
@@ -44,18 +45,19 @@ fn has_room(entries: &[Entry], length: usize) -> bool
 }
 
 // The whole length of an entry.
-fn told_length(entry: Entry) -> usize
+fn length_of(entry: Entry) -> usize
     ensures { result ≡ length_of_told entry.told }
 {
-    kinds::shape_of(kinds::told_kind(entry.told)).whole
+    Kind::from(entry.told).shape().whole
 }
 
-// Stores an entry from `at` on, and answers its whole length.
-fn put_entry(buffer: &mut [u8], at: usize, account: u16, entry: Entry) -> usize
+// Stores an entry at the beginning of a buffer, and answers its whole length.
+fn put_entry(buffer: &mut [u8], account: u16, entry: Entry) -> usize
     ensures length { result ≡ length_of_told entry.told }
-    ensures bytes { buffer.new ≡ sets buffer.old at (bytes_of_entry account entry) }
+    ensures bytes { buffer.new ≡ sets buffer.old 0 (bytes_of_entry account entry) }
 {
-    let shape = kinds::shape_of(kinds::told_kind(entry.told));
-    layout::put_numbers(buffer, at, shape.widths, kinds::numbers_of(entry, account));
+    let shape = Kind::from(entry.told).shape();
+    let numbers = kinds::numbers_of(entry, account);
+    layout::put_numbers(buffer, 0, shape.widths, numbers);
     shape.whole
 }

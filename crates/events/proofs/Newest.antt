@@ -3,17 +3,17 @@
 -- Assumes nothing.
 use Prim.Native.Nat.{ℕ, zero, suc, ◌+◌, ◌/◌, ◌%◌, ◌^◌, ◌<◌}
 use mathlib.Core.Path.{◌≡◌, refl, sym, ◌∙◌, ap, ap₂}
-use mathlib.Core.Bool.{Bool, true, false, cond, ◌&&◌}
+use mathlib.Core.Bool.{cond, ◌&&◌}
 use mathlib.Core.List.{List, [], ◌∷◌, ◌++◌, map, append_assoc, append-nil}
 use native.Mathlib.Omega.{arith}
 use lib.Dec.{eqb}
 use lib.Pow.{pow_pos}
+use Rattle.std.proofs.Math.Bool.{and-true, and_assoc}
 use Rattle.rule.specs.Lists.{every, numbers}
 use Rattle.rule.specs.Rule.{Rule, guard, Decision, undecided, committed, Slot, slot}
 use Rattle.rule.specs.Outcome.{undecided_of, outcome, outcomes}
 use Rattle.rule.specs.InOrder.{guarded}
 use Rattle.rule.proofs.Outcomes.{twice}
-use Rattle.events.proofs.Guards.{and-true}
 
 -- numbers in a row, mapped: two rows, one after the other; two rows that are mapped alike
 module _ {A : Type 0} where
@@ -111,7 +111,3 @@ module _ {G S E B : Type 0} (R : Rule S E B) where
   guarded-more s before (slot t' g' e' d' ∷ xs) t g e d =
       rw (guarded-more s (before ++ (slot t' g' e' d' ∷ [])) xs t g e d, append_assoc before (slot t' g' e' d' ∷ []) xs)
       (sym (and_assoc (every (guard R e') (outcomes R before s)) (guarded R s (before ++ (slot t' g' e' d' ∷ [])) xs) (every (guard R e) (outcomes R (before ++ (slot t' g' e' d' ∷ xs)) s))))
-    where
-      and_assoc : (a b c : Bool) → (a && b && c) ≡ (a && (b && c))
-      and_assoc true b c = refl
-      and_assoc false b c = refl

@@ -1,81 +1,77 @@
 -- An account in words: where each field stands behind the account's beginning, and its words stored one after the other.
 -- Assumes nothing.
-use Prim.Native.Nat.{ℕ, ◌+◌, ◌*◌, ◌≤◌, min}
-use native.Mathlib.Nat.{add-zero, add_assoc, min-eq_left}
+use Prim.Native.Nat.{ℕ, ◌+◌, ◌-◌, ◌*◌, ◌≤◌, min}
+use native.Mathlib.Nat.{add_assoc}
 use native.Mathlib.Omega.{arith}
-use mathlib.Core.Path.{◌≡◌, refl, ap, sym, ◌∙◌}
-use mathlib.Core.Bool.{Bool, true, false, cond, ◌&&◌}
+use mathlib.Core.Path.{◌≡◌, refl, ap, ◌∙◌}
+use mathlib.Core.Bool.{Bool, cond, ◌&&◌}
 use mathlib.Core.List.{List, ◌++◌}
-use borrow.Author.Tests.{leb-true, leb-false, le-leb}
-use lib.Dec.{eqb, leb}
+use borrow.Author.Tests.{le-leb}
+use lib.Dec.{eqb}
 use lib.ListN.{length, get_or, take, drop, length-append}
-use lib.Seq.{sets, get_or-drop, drop-drop, take_all}
+use Rattle.std.proofs.lemmas.List.{length-take, length-drop, take_min}
+use lib.Seq.{sets, length-sets, take_all}
 use Rattle.layout.proofs.Stores.{sets_more}
 use Rattle.events.specs.declared.Life.{Life}
 use Rattle.filing.specs.declared.Slot.{Slot}
 use Rattle.filing.specs.Slots.{places}
 use Rattle.account.specs.declared.Account.{Account}
 use Rattle.image.specs.Words.{life_word, place_words, words_of_slots, head_words, row_words, account_words, head_of, words_of, stored_in, stored_to}
-use Rattle.image.specs.Reading.{life_from, is_life, slots_from, are_slots, too_many, is_account, fields_from}
-use Rattle.image.proofs.Rows.{length-slots}
+use Rattle.image.specs.Reading.{life_from, slots_from, are_slots, too_many, is_account, fields_from, account_from}
+use borrow.Rule.Slice.PartMut.{put_mid, mid_of}
+use Rattle.image.proofs.Rows.{length-slots, part-stored, rest-begun}
 
-module _ (words : List ℕ) (from : ℕ) where
-  is-account-at : is_account (drop from words)
-      ≡ is_life (get_or words from 0) && are_slots places (drop (from + head_words) words) && are_slots places (drop (from + (head_words + row_words)) words)
-  unfolding is_account
-  is-account-at = simp (get_or-drop, drop-drop, add-zero)
+-- words from a place to the end
+rest : (l : List ℕ) (k : ℕ) → take (length l - k) (drop k l) ≡ drop k l
+rest l k = take_all (length l - k) (drop k l) (omega (arith, length-drop k l))
 
-  fields_at : fields_from (drop from words)
-      ≡ record {
-        state = record { life = life_from (get_or words from 0); balance = get_or words (from + 1) 0 };
-        progress = slots_from places (drop (from + head_words) words);
-        progressing = cond (is_account (drop from words)) (get_or words (from + 2) 0) too_many;
-        held = slots_from places (drop (from + (head_words + row_words)) words);
-        holding = get_or words (from + 3) 0;
-      }
-  unfolding fields_from
-  fields_at = simp (get_or-drop, drop-drop, add-zero)
+-- the fields as they are read: the life, the rows with what is known of them, and the counts
+module _ (words : List ℕ) (from : ℕ) (room : from + account_words ≤ length words) where
+  abbrev own : List ℕ
+  own = take (length words - from) (drop from words)
 
-  -- the fields as they are read: the life, the rows with what is known of them, and the counts
-  pub account-read : (life : Life) (life-is in-progress valid : Bool) (progress held : List Slot) (progressing holding at : ℕ)
-      → life ≡ life_from (get_or words from 0) → life-is ≡ eqb (life_word life) (get_or words from 0)
-      → (progress ≡ slots_from places (drop (from + head_words) words)) × (in-progress ≡ life-is && are_slots places (drop (from + head_words) words))
-      → at ≡ from + head_words + row_words
-      → (held ≡ slots_from places (drop at words)) × (valid ≡ in-progress && are_slots places (drop at words))
-      → progressing ≡ cond valid (get_or words (from + 2) 0) too_many → holding ≡ get_or words (from + 3) 0
-      → record {
-        state = record { life = life; balance = get_or words (from + 1) 0 };
-        progress = progress;
-        progressing = progressing;
-        held = held;
-        holding = holding;
-      }
-      ≡ fields_from (drop from words)
-  account-read life life-is in-progress valid progress held progressing holding at l b p e h n m =
-      let whole : valid ≡ is_account (drop from words) = rw (h.1, p.1, b, l, e, add_assoc, is-account-at) refl in
-      rw (fields_at, ← whole, n, m, l, p.0, h.0, e, add_assoc) refl
+  abbrev row : ℕ → List ℕ
+  row at = take (length own - at) (drop at own)
 
--- no more places than there are
-take_min : (n : ℕ) (xs : List Slot) → take (min n (length xs)) xs ≡ take n xs
-take_min n xs = go (leb n (length xs)) refl
-  where
-    go : (b : Bool) → leb n (length xs) ≡ b → take (min n (length xs)) xs ≡ take n xs
-    go true e = ap (λ (k : ℕ). take k xs) (min-eq_left (leb-true n (length xs) e))
-    go false e =
-        let all : length xs ≤ n = omega (arith, leb-false n (length xs) e) in
-        take_all (min n (length xs)) xs (omega arith) ∙ sym (take_all n xs all)
+  pub account-read : (life : Life) (word : ℕ) (first second : Bool) (progress held : List Slot) (progressing : ℕ)
+      → life ≡ life_from (get_or own 0 0) → word ≡ life_word life
+      → (progress ≡ slots_from places (row head_words)) × (first ≡ are_slots places (row head_words))
+      → (held ≡ slots_from places (row (head_words + row_words))) × (second ≡ are_slots places (row (head_words + row_words)))
+      → progressing ≡ cond (eqb word (get_or own 0 0) && first && second) (get_or own 2 0) too_many
+      → record { state = record { life = life; balance = get_or own 1 0 }; progress = progress; progressing = progressing; held = held; holding = get_or own 3 0 } ≡ account_from words from
+  unfolding account_from fields_from is_account
+  account-read life word first second progress held progressing l w p h n =
+      rw (le-leb (from + account_words) (length words) room, n, w, p.0, p.1, h.0, h.1, l, rest own head_words, rest own (head_words + row_words), rest words from) refl
 
 -- the words before the places, then so many of each row, one after the other
-pub account-stored : (a : Account) (n m k j : ℕ) (l l₁ l₂ l₃ : List ℕ) (from : ℕ) → length a.progress ≡ places → length a.held ≡ places
-    → from + account_words ≤ length l → k ≡ min n places → j ≡ min m places
-    → l₁ ≡ sets l from (head_of a) → l₂ ≡ sets l₁ (from + head_words) (words_of_slots (take k a.progress))
-    → l₃ ≡ sets l₂ (from + head_words + row_words) (words_of_slots (take j a.held))
-    → l₃ ≡ stored_to l from a n m
-unfolding stored_to
-account-stored a n m k j l l₁ l₂ l₃ from p q room few few_held e₁ e₂ e₃ =
-    let first : take k a.progress ≡ take n a.progress = rw few (rw p at (take_min n a.progress)) in
-    let second : take j a.held ≡ take m a.held = rw few_held (rw q at (take_min m a.held)) in
-    rw (le-leb (from + account_words) (length l) room, ← first, ← second, ← e₁, ← e₂) e₃
+module _ (a : Account) (n m : ℕ) (l p₁ p₂ p₃ : List ℕ) (from : ℕ) (p : length a.progress ≡ places) (q : length a.held ≡ places) (room : from + account_words ≤ length l) where
+  abbrev at : ℕ
+  at = from + head_words
+
+  abbrev l₁ : List ℕ
+  l₁ = put_mid from (at - from) l p₁
+
+  abbrev l₂ : List ℕ
+  l₂ = put_mid at (length l₁ - at) l₁ p₂
+
+  abbrev l₃ : List ℕ
+  l₃ = put_mid (at + row_words) (length l₂ - (at + row_words)) l₂ p₃
+
+  part-size : (k : ℕ) (row : List Slot) → length row ≡ places → length (words_of_slots (take k row)) ≤ row_words
+  part-size k row e = omega (arith, length-slots (take k row), length-take k row)
+
+  pub account-stored : p₁ ≡ head_of a → p₂ ≡ sets (mid_of at (length l₁ - at) l₁) 0 (words_of_slots (take (min n places) a.progress))
+      → p₃ ≡ sets (mid_of (at + row_words) (length l₂ - (at + row_words)) l₂) 0 (words_of_slots (take (min m places) a.held)) → l₃ ≡ stored_to l from a n m
+  unfolding stored_to
+  account-stored e₁ e₂ e₃ =
+      let first = take (min n places) a.progress in
+      let second = take (min m places) a.held in
+      let head : l₁ ≡ sets l from (head_of a) = part-stored from (at - from) l p₁ (omega (arith, ap length e₁)) (omega arith) ∙ ap (sets l from) e₁ in
+      let size = length-sets l from (head_of a) in
+      let progress = rest-begun at l₁ (sets l from (head_of a)) (words_of_slots first) p₂ head (omega (arith, size, part-size (min n places) a.progress p)) e₂ in
+      let size_more = length-sets (sets l from (head_of a)) at (words_of_slots first) in
+      let held = rest-begun (at + row_words) l₂ (sets (sets l from (head_of a)) at (words_of_slots first)) (words_of_slots second) p₃ progress (omega (arith, size, size_more, part-size (min m places) a.held q)) e₃ in
+      rw (le-leb (from + account_words) (length l) room, ← rw p at (take_min n a.progress), ← rw q at (take_min m a.held)) held
 
 -- all of each row is all of the account
 module _ (a : Account) (l : List ℕ) (from : ℕ) (p : length a.progress ≡ places) where

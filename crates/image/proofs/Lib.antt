@@ -1,5 +1,4 @@
 pub mod WordsOfFields
-pub mod WordsOfPlaces
 pub mod Rows
 pub mod Accounts
 pub mod ReadBack

@@ -21,10 +21,10 @@ use Rattle.account.specs.declared.Account.{Account}
 use Rattle.account.specs.InOrder.{in_order_by}
 use Rattle.account.proofs.Clauses.{clauses}
 use Rattle.layout.proofs.Stores.{sets-append}
-use Rattle.image.specs.Words.{place_words, words_of_slot, words_of_slots, head_words, row_words, account_words, head_of, stored_in, stored_to}
+use Rattle.image.specs.Words.{place_words, words_of_slots, head_words, row_words, account_words, head_of, stored_in, stored_to}
 use Rattle.image.specs.Reading.{slots_from, are_slots, fields_from, account_from}
 use Rattle.image.specs.Images.{UsedSuffice}
-use Rattle.image.proofs.Rows.{length-slots}
+use Rattle.image.proofs.Rows.{length-slots, words_append}
 use Rattle.image.proofs.Accounts.{rows-stored}
 use Rattle.image.proofs.WrittenBack.{slots-written, length-slots_from, parts, ordered, ordered-room, read-so}
 
@@ -50,11 +50,6 @@ blanks-behind xs count n h k size =
     all-blank (drop n xs) behind ∙ ap (λ (m : ℕ). replicate m blank) (length-drop n xs ∙ ap (λ (m : ℕ). m - n) size)
 
 -- ---- words of places, and stores of what stands there already
-
-words_append : (xs ys : List Slot) → words_of_slots (xs ++ ys) ≡ words_of_slots xs ++ words_of_slots ys
-unfolding words_of_slots
-words_append [] ys = refl
-words_append (x ∷ xs) ys = rw (words_append xs ys) (sym (append_assoc (words_of_slot x) (words_of_slots xs) (words_of_slots ys)))
 
 -- the first places, and the others
 words-split : (n : ℕ) (xs : List Slot) → words_of_slots xs ≡ words_of_slots (take n xs) ++ words_of_slots (drop n xs)

@@ -1,10 +1,11 @@
 -- Words of fields: each field reads back from its word, by cases; an event by its kind and its amount.
 -- Assumes nothing.
-use Prim.Native.Nat.{ℕ, ◌+◌, ◌≤◌, ◌<◌}
+use Prim.Native.Nat.{ℕ, ◌+◌, ◌≤◌, ◌<◌, min}
+use native.Mathlib.Nat.{min-eq_left, min-eq_right}
 use native.Mathlib.Omega.{arith}
 use mathlib.Core.Path.{◌≡◌, refl, sym, ◌∙◌}
-use mathlib.Core.Bool.{false, ◌&&◌}
-use borrow.Author.Tests.{le-leb, lt-leb}
+use mathlib.Core.Bool.{Bool, true, false, ◌&&◌}
+use borrow.Author.Tests.{le-leb, lt-leb, leb-true, leb-false}
 use lib.Dec.{leb, lit≤}
 use Rattle.events.specs.declared.Event.{Event}
 use Rattle.events.specs.declared.Event.TheVariants.{Open, Withdraw, Deposit, Close}
@@ -44,5 +45,13 @@ kind-positive Close = lit≤ tt
 no_kind : (kind : ℕ) → 3 < kind → leb 1 kind && leb kind 3 ≡ false
 no_kind kind h = rw (le-leb 1 kind (omega arith), lt-leb kind 3 h)
 
-pub past-last : (word amount : ℕ) → 3 ≤ word → event_of 4 amount ≡ event_from word amount
-past-last word amount h = (kinds-hold amount).other 4 refl ∙ sym ((kinds-hold amount).other (word + 1) (no_kind (word + 1) (omega arith)))
+pub last-kept : (word amount : ℕ) → event_of (min word 3 + 1) amount ≡ event_from word amount
+last-kept word amount = go (leb word 3) refl
+  where
+    go : (b : Bool) → leb word 3 ≡ b → event_of (min word 3 + 1) amount ≡ event_from word amount
+    go true e = rw (min-eq_left (leb-true word 3 e)) refl
+    go false e =
+        let past : 3 < word = leb-false word 3 e in
+        rw (min-eq_right (let low : 3 ≤ word = omega arith in low)) ((kinds-hold amount).other 4 refl ∙ sym ((kinds-hold amount).other (word + 1) (no_kind (word + 1) (omega arith))))
+
+pub ruleset kept = (last-kept)

@@ -1,23 +1,22 @@
 // The fields of an account as words, and back: each word reads as something (docs/REGISTER.md, 15.2).
+// Functions, and no From: it asks that one of the two types is this crate's, and neither is.
 ghost use Rattle.std.specs.Prelude.{◌≡◌};
-ghost use Rattle.image.specs.Words.{life_word, event_word, decision_word, count_word};
+ghost use Rattle.image.specs.Words.{life_word, event_word, count_word, head_of};
 ghost use Rattle.image.specs.Reading.{life_from, event_from, decision_from};
 
+use crate::HEAD_WORDS;
+use account::Account;
 use events::{Event, Life};
 use filing::Decision;
 
-// The highest number of a word.
-const MOST: usize = 4_294_967_295;
+// The last word of an event.
+const LAST: u32 = 3;
 
 // The word of a life.
 pub fn life_word(life: Life) -> u32
     ensures { result ≡ life_word life }
 {
-    match life {
-        Life::New => 0,
-        Life::Opened => 1,
-        Life::Closed => 2,
-    }
+    life as u32
 }
 
 // The life of a word; of one that is none, as of 2.
@@ -38,26 +37,12 @@ pub(crate) fn event_word(event: Event) -> u32
     (event.kind() - 1) as u32
 }
 
-// The event of a word and an amount; of a word that is none, as of 3.
+#[tactic(auto, using(crate::proofs::WordsOfFields::kept))]
+// The event of a word and an amount; of a word that is none, as of the last.
 pub(crate) fn event_of(word: u32, amount: u32) -> Event
     ensures { result ≡ event_from word amount }
 {
-    let last = 3;
-    if word < last {
-        Event::of(word as u8 + 1, amount)
-    } else {
-        Event::of(4, amount)
-    }
-}
-
-// The word of a decision.
-pub(crate) fn decision_word(decision: Decision) -> u32
-    ensures { result ≡ decision_word decision }
-{
-    match decision {
-        Decision::Undecided => 0,
-        Decision::Committed => 1,
-    }
+    Event::of(word.min(LAST) as u8 + 1, amount)
 }
 
 // The decision of a word; of one that is none, as of 1.
@@ -74,16 +59,17 @@ pub(crate) fn decision_of(word: u32) -> Decision
 pub(crate) fn count_word(count: usize) -> u32
     ensures { result ≡ count_word count }
 {
-    if count < MOST {
-        count as u32
-    } else {
-        MOST as u32
-    }
+    u32::try_from(count).unwrap_or(u32::MAX)
 }
 
-// The count of a word.
-pub(crate) fn count_of(word: u32) -> usize
-    ensures { result ≡ word }
+// The words before the places: life, balance, and the two counts.
+pub(crate) fn head_words(account: &Account) -> [u32; HEAD_WORDS]
+    ensures { result ≡ head_of account.now }
 {
-    word as usize
+    [
+        life_word(account.state.life),
+        account.state.balance,
+        count_word(account.progressing),
+        count_word(account.holding),
+    ]
 }

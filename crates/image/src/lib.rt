@@ -4,11 +4,11 @@
 mod fields;
 mod places;
 
-ghost use Rattle.std.specs.Prelude.{◌≡◌, true, cond, [], ◌∷◌, ◌+◌, ◌-◌, ◌*◌, ◌≤◌, min, leb, length, take, drop};
+ghost use Rattle.std.specs.Prelude.{◌≡◌, [], ◌∷◌, ◌+◌, ◌*◌, ◌≤◌, leb, length, replicate};
 ghost use Rattle.std.proofs.lemmas.List.Edits.{sets};
-ghost use Rattle.filing.specs.Slots.{places};
-ghost use Rattle.image.specs.Words.{life_word, count_word, place_words, head_words, row_words, account_words, stored_in, stored_to};
-ghost use Rattle.image.specs.Reading.{are_zero, too_many, account_from};
+ghost use Rattle.filing.specs.Slots.{places, blank};
+ghost use Rattle.image.specs.Words.{place_words, row_words, account_words, words_of_slots, head_of, stored_in, stored_to};
+ghost use Rattle.image.specs.Reading.{are_zero, slots_from, are_slots, account_from};
 
 use account::Account;
 use events::State;
@@ -42,46 +42,25 @@ const NO_ACCOUNT: Account = Account {
     holding: 0,
 };
 
-// The account whose image begins at `from`. A row is read as far as it has to be: where all words behind are 0, its places are blank already.
-// The account has one way out and the loops stand in this body: handing a row to a helper costs a copy of it.
+// The account whose image begins at `from`: words and a place, as the definition `account_from` has them, since the words may end before it.
+// One way out: with another for too few words it was copied, which was tried and costs a quarter more.
 pub fn read_account(image: &[u32], from: usize) -> Account
     ensures { result ≡ account_from image.now from }
 {
     let mut account = NO_ACCOUNT;
     if has_room(image.len(), from) {
-        let word = image[from];
-        let life = fields::life_of(word);
-        let mut valid = fields::life_word(life) == word;
-        let mut at = from + HEAD_WORDS;
-        let count = fields::count_of(image[from + 2]);
-        let in_progress = reach(image, at, at_most_all(count));
-        let mut i = 0;
-        while i < in_progress {
-            let place = places::read_place(image, at);
-            valid = valid & place.valid;
-            let slot = place.slot;
-            account.progress[i] = slot;
-            at += PLACE_WORDS;
-            i += 1;
-        }
-        at = from + HEAD_WORDS + ROW_WORDS;
-        let in_holding = reach(image, at, 0);
-        i = 0;
-        while i < in_holding {
-            let place = places::read_place(image, at);
-            valid = valid & place.valid;
-            let slot = place.slot;
-            account.held[i] = slot;
-            at += PLACE_WORDS;
-            i += 1;
-        }
-        let state = State {
+        let words = &image[from..];
+        let life = fields::life_of(words[0]);
+        let count = words[2] as usize;
+        let progress = read_row(&words[HEAD_WORDS..], count, &mut account.progress);
+        let held = read_row(&words[HEAD_WORDS + ROW_WORDS..], 0, &mut account.held);
+        let valid = (life_word(life) == words[0]) & progress & held;
+        account.state = State {
             life,
-            balance: image[from + 1],
+            balance: words[1],
         };
-        account.state = state;
-        account.progressing = count_if(valid, count);
-        account.holding = fields::count_of(image[from + 3]);
+        account.progressing = if valid { count } else { TOO_MANY };
+        account.holding = words[3] as usize;
     }
     account
 }
@@ -98,26 +77,16 @@ pub fn put_used(image: &mut [u32], from: usize, account: Account, progress: usiz
     ensures { image.new ≡ stored_to image.old from account progress held }
 {
     if has_room(image.len(), from) {
-        let state = account.state;
-        put_head(image, from, state, account.progressing, account.holding);
-        let in_progress = at_most_all(progress);
-        let mut at = from + HEAD_WORDS;
-        let mut i = 0;
-        while i < in_progress {
-            let slot = account.progress[i];
-            places::put_place(image, at, slot);
-            at += PLACE_WORDS;
-            i += 1;
-        }
-        let in_holding = at_most_all(held);
-        at = from + HEAD_WORDS + ROW_WORDS;
-        i = 0;
-        while i < in_holding {
-            let slot = account.held[i];
-            places::put_place(image, at, slot);
-            at += PLACE_WORDS;
-            i += 1;
-        }
+        let at = from + HEAD_WORDS;
+        image[from..at].copy_from_slice(&fields::head_words(&account));
+        put_row(
+            &mut image[at..],
+            &account.progress[..progress.min(Account::PLACES)],
+        );
+        put_row(
+            &mut image[at + ROW_WORDS..],
+            &account.held[..held.min(Account::PLACES)],
+        );
     }
 }
 
@@ -125,70 +94,48 @@ pub fn put_used(image: &mut [u32], from: usize, account: Account, progress: usiz
 fn has_room(words: usize, from: usize) -> bool
     ensures { result ≡ leb (from + account_words) words }
 {
-    if words < ACCOUNT_WORDS {
-        return false;
-    }
-    if words - ACCOUNT_WORDS < from {
-        return false;
-    }
-    true
+    ACCOUNT_WORDS <= words && from <= words - ACCOUNT_WORDS
 }
 
-// How many places of the row at `at` have to be read: so many, where every word behind them is 0, else all.
-fn reach(image: &[u32], at: usize, used: usize) -> usize
-    requires { (used ≤ places) × (at + row_words ≤ length image.now) }
-    ensures { (result ≤ places) × (are_zero (take ((places - result) * place_words) (drop (at + result * place_words) image.now)) ≡ true) }
+// Reads a row of places, and tells whether its words are places'. It is read as far as it has to be: where all words behind so many places are 0, the others are blank already.
+fn read_row(words: &[u32], count: usize, row: &mut [Slot]) -> bool
+    requires { (row_words ≤ length words.now) × (row.old ≡ replicate places blank) }
+    ensures { (row.new ≡ slots_from places words.now) × (result ≡ are_slots places words.now) }
 {
-    if are_zero(
-        image,
-        at + used * PLACE_WORDS,
-        (Account::PLACES - used) * PLACE_WORDS,
-    ) {
-        return used;
+    let used = count.min(Account::PLACES);
+    let reach = if are_zero(&words[used * PLACE_WORDS..ROW_WORDS]) {
+        used
+    } else {
+        Account::PLACES
+    };
+    let (chunks, _) = words.as_chunks::<PLACE_WORDS>();
+    let mut valid = true;
+    for (i, chunk) in chunks[..reach].iter().enumerate() {
+        let place = places::read_place(chunk);
+        row[i] = place.slot;
+        valid &= place.valid;
     }
-    Account::PLACES
+    valid
 }
 
-// Whether so many words from `from` on are all 0: every one is looked at, so that the compiler takes several in one step.
-fn are_zero(image: &[u32], from: usize, count: usize) -> bool
-    requires { from + count ≤ length image.now }
-    ensures { result ≡ are_zero (take count (drop from image.now)) }
+// Whether all words are 0: every one is looked at, so that the compiler takes several in one step.
+fn are_zero(words: &[u32]) -> bool
+    ensures { result ≡ are_zero words.now }
 {
     let mut zero = true;
-    let mut i = 0;
-    while i < count {
-        zero = zero & (image[from + i] == 0);
-        i += 1;
+    for word in words {
+        zero &= *word == 0;
     }
     zero
 }
 
-// A count of places, of which there are no more than all.
-fn at_most_all(count: usize) -> usize
-    ensures { result ≡ min count places }
+// Stores a row of places.
+fn put_row(words: &mut [u32], row: &[Slot])
+    requires { length row.now * place_words ≤ length words.old }
+    ensures { words.new ≡ sets words.old 0 (words_of_slots row.now) }
 {
-    if count < Account::PLACES {
-        count
-    } else {
-        Account::PLACES
+    for (i, slot) in row.iter().enumerate() {
+        let at = i * PLACE_WORDS;
+        words[at..at + PLACE_WORDS].copy_from_slice(&places::place_words(*slot));
     }
-}
-
-// Stores the words before the places.
-fn put_head(image: &mut [u32], at: usize, state: State, progressing: usize, holding: usize)
-    requires { at + head_words ≤ length image.old }
-    ensures { image.new ≡ sets image.old at (life_word state.life ∷ state.balance ∷ count_word progressing ∷ count_word holding ∷ []) }
-{
-    let life = state.life;
-    image[at] = fields::life_word(life);
-    image[at + 1] = state.balance;
-    image[at + 2] = fields::count_word(progressing);
-    image[at + 3] = fields::count_word(holding);
-}
-
-// How many are in progress: the count, or too many where a word is none of its field's.
-fn count_if(valid: bool, count: usize) -> usize
-    ensures { result ≡ cond valid count too_many }
-{
-    if valid { count } else { TOO_MANY }
 }

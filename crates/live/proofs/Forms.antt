@@ -12,8 +12,8 @@ use Rattle.filing.specs.declared.Verdict.TheVariants.{Accepted, Rejected, Held}
 use Rattle.filing.specs.declared.Told.{Told}
 use Rattle.filing.specs.declared.Told.TheVariants.{Voted, Noted, Applied, Dropped}
 use Rattle.layout.specs.Fields.{row_of_kind}
-use Rattle.entry.specs.declared.EntryReading.{EntryReading}
-use Rattle.entry.specs.declared.EntryReading.TheVariants.{Found, Nothing}
+use Rattle.std.specs.Prelude.{Option, Some, None}
+use Rattle.entry.specs.declared.Found.{Found}
 use Rattle.entry.specs.Bytes.{entry_rows, vote_kind, kind_of}
 use Rattle.entry.specs.Answers.{read_of}
 use Rattle.entry.proofs.Inverse.{reads-standing, reads-written}
@@ -22,7 +22,7 @@ use Rattle.text.specs.Text.{is_older, write_line_of}
 use Rattle.live.specs.Lines.{no_line, line_found, line_of_entry}
 use Rattle.live.specs.Forms.{LineHolds, FormsHold}
 
-line-none : (bytes buffer : List ℕ) → read_of bytes ≡ Nothing → line_of_entry bytes buffer ≡ no_line buffer
+line-none : (bytes buffer : List ℕ) → read_of bytes ≡ None → line_of_entry bytes buffer ≡ no_line buffer
 unfolding line_of_entry
 line-none bytes buffer e = rw e refl
 
@@ -30,9 +30,9 @@ line-short : (bytes buffer : List ℕ) → length buffer < 72 → line_of_entry 
 unfolding line_of_entry write_line_of
 line-short bytes buffer h = go (read_of bytes)
   where
-    go : (x : EntryReading) → line_found buffer x ≡ no_line buffer
-    go Nothing = refl
-    go (Found e kind account whole) = rw (lt-ltb (length buffer) 72 h) refl
+    go : (x : Option (Found × ℕ)) → line_found buffer x ≡ no_line buffer
+    go None = refl
+    go (Some (found, whole)) = rw (lt-ltb (length buffer) 72 h) refl
 
 -- no entry is written in kind 18
 own-kind : (told : Told) → is_older (kind_of told) ≡ false
@@ -63,8 +63,8 @@ line-holds =
 pub forms-hold : FormsHold
 forms-hold =
     record {
-      call = λ image buffer a b c n m. record { refused = refl; taken = refl; one = refl; none = refl };
-      look = λ a b c d n m. record { refused = refl; new = refl; opened = refl; closed = refl; two = refl };
-      stored = λ buffer a b c n m. record { stored = refl; one = refl };
+      call = λ image buffer r a b c n m. record { refused = refl; taken = refl; one = refl; none = refl };
+      look = λ r a b c d n m. record { refused = refl; new = refl; opened = refl; closed = refl; two = refl };
+      stored = λ buffer a b c n m. record { stored = refl; none = refl; one = refl };
       line = line-holds;
     }

@@ -16,13 +16,14 @@ use Rattle.filing.specs.Entries.{entry_of}
 use Rattle.account.specs.declared.Account.{Account}
 use Rattle.account.specs.Places.{RuleAccount, account_of}
 use Rattle.account.specs.InOrder.{in_order_by}
-use Rattle.account.specs.Steps.{refused_by, step_by}
+use Rattle.account.specs.Steps.{refused_step, step_by}
 use Rattle.account.proofs.Clauses.{clauses}
 use Rattle.account.proofs.Forms as account-forms
 use Rattle.account.proofs.Kept.{order-account}
-use Rattle.layout.specs.Answers.{laid_over}
+use Rattle.layout.specs.Writes.{laid_over}
+use Rattle.std.specs.Prelude.{Ok, Err}
+use Rattle.refusal.specs.declared.Refusal.TheVariants.{NotInOrder}
 use Rattle.message.specs.declared.Message.{Message}
-use Rattle.message.specs.declared.Reading.TheVariants as Reading'
 use Rattle.message.specs.Bytes.{heading_of}
 use Rattle.message.specs.Answers.{read_of}
 use Rattle.entry.specs.Bytes.{bytes_of_entries}
@@ -31,9 +32,8 @@ use Rattle.image.specs.Reading.{account_from}
 use Rattle.image.specs.Images.{Kept}
 use Rattle.image.proofs.WrittenBack.{ordered-room, too_short}
 use Rattle.register.specs.declared.Register.{Register}
-use Rattle.register.specs.declared.Reply.TheVariants.{Refused, Taken}
 use Rattle.register.specs.Register.{accounts_of_register, nowhere, with_account, rule_message}
-use Rattle.register.specs.Call.{Result, called_by}
+use Rattle.register.specs.Call.{Called, called_by}
 use Rattle.register.specs.Refusals.{account_in}
 use Rattle.register.proofs.ReadAs.{account-read}
 use Rattle.register.proofs.Suits.{Suits}
@@ -85,7 +85,7 @@ module _ (R : rule.Rule State Event ℕ) (k : Suits R) where
       room = ordered-room R k.few image (word_at i) (rw (account-of-image image i low) at t.free.in_order)
 
       live-taken : called_by R r bytes buffer ≡ taken_as r buffer i consumed (taking R r m).account (taking R r m).entries
-          → live_by R image bytes buffer ≡ record { reply = Taken consumed (length written); image = stored_in image (word_at i) next; buffer = laid_over written buffer }
+          → live_by R image bytes buffer ≡ record { reply = Ok (record { consumed = consumed; written = length written }); image = stored_in image (word_at i) next; buffer = laid_over written buffer }
       unfolding live_by
       live-taken e =
           let there : i < length r.accounts = rw (length-accounts_from accounts_of_register image 0) low in
@@ -97,23 +97,23 @@ module _ (R : rule.Rule State Event ℕ) (k : Suits R) where
           (rw zero-add at (stored_at accounts_of_register image 0 i next next-kept low (rw zero-add room)))
 
     -- an image too short for the account that is named: that account is not in order
-    module _ (m : Message) (consumed : ℕ) (e : read_of bytes ≡ Reading'.Message m consumed) (l : 323 ≤ length buffer) (low : length image < account_in bytes * 84 + 84) where
+    module _ (m : Message) (consumed : ℕ) (e : read_of bytes ≡ Ok (m, consumed)) (l : 323 ≤ length buffer) (low : length image < account_in bytes * 84 + 84) where
       abbrev named : Account
       named = account_from image (word_at (heading_of m).account)
 
       unordered : in_order_by R named ≡ false
       unordered = too_short R k.few image (word_at (heading_of m).account) (omega (arith, account-read bytes m consumed e))
 
-      five : step_by R named (rule_message m) ≡ refused_by named 5
+      five : step_by R named (rule_message m) ≡ refused_step named NotInOrder
       unfolding step_by
       five = rw unordered refl
 
-      short : (live_by R image bytes buffer).reply ≡ Refused 5
+      short : (live_by R image bytes buffer).reply ≡ Err NotInOrder
       short =
           ap (λ (live : Live). live.reply)
-          (live-finished R image bytes buffer m consumed named (record { read = e; room = l; account = refl }) (refused_by named 5) (sym five))
+          (live-finished R image bytes buffer m consumed named (record { read = e; room = l; account = refl }) (refused_step named NotInOrder) (sym five))
 
-    keeps-by : {result : Result} → Calling R r bytes buffer result → called_by R r bytes buffer ≡ result → Keeps R image bytes buffer
+    keeps-by : {result : Called} → Calling R r bytes buffer result → called_by R r bytes buffer ≡ result → Keeps R image bytes buffer
     keeps-by (refused n why) e =
         let live = live-refused R image bytes buffer n e in
         let left : (live_by R image bytes buffer).image ≡ image = ap (λ (x : Live). x.image) live in

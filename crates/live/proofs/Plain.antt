@@ -2,7 +2,7 @@
 -- Assumes nothing.
 use Prim.Native.Nat.{ℕ, ◌*◌, ◌≤◌}
 use native.Mathlib.Omega.{arith}
-use mathlib.Core.Path.{◌≡◌, refl, sym, ◌∙◌}
+use mathlib.Core.Path.{◌≡◌, refl, ◌∙◌}
 use mathlib.Core.List.{List, ◌++◌}
 use borrow.Author.Tests.{lt-ltb, le-ltb}
 use lib.ListN.{length}
@@ -10,15 +10,14 @@ use lib.Seq.{take_at, drop_at}
 use Rattle.rule.specs.Rule.{Rule}
 use Rattle.events.specs.declared.Event.{Event}
 use Rattle.events.specs.declared.State.{State}
-use Rattle.account.specs.declared.Answer.TheVariants as Answer'
+use Rattle.std.specs.Prelude.{Ok, Err}
+use Rattle.refusal.specs.declared.Refusal.{Refusal}
 use Rattle.account.specs.Steps.{step_by}
 use Rattle.layout.specs.Fields.{last_account}
 use Rattle.message.specs.declared.Message.{Message}
-use Rattle.message.specs.declared.Reading.TheVariants as Reading'
 use Rattle.message.specs.Bytes.{heading_of}
 use Rattle.message.specs.Answers.{read_of}
 use Rattle.image.specs.Reading.{account_from}
-use Rattle.register.specs.declared.Reply.TheVariants.{Refused}
 use Rattle.register.specs.Register.{accounts_of_register, rule_message, asked_by}
 use Rattle.live.specs.Registers.{word_at, words_of_accounts}
 use Rattle.live.specs.Live.{live_by, look_by}
@@ -47,10 +46,10 @@ registers-plain =
     }
 
 module _ (R : Rule State Event ℕ) (image bytes buffer : List ℕ) where
-  call-refused : (m : Message) (consumed n : ℕ) → read_of bytes ≡ Reading'.Message m consumed → 323 ≤ length buffer
-      → (step_by R (account_from image (word_at (heading_of m).account)) (rule_message m)).answer ≡ Answer'.Refused n
-      → live_by R image bytes buffer ≡ record { reply = Refused n; image = image; buffer = buffer }
-  call-refused m consumed n read room answer =
+  call-refused : (m : Message) (consumed : ℕ) (r : Refusal) → read_of bytes ≡ Ok (m, consumed) → 323 ≤ length buffer
+      → (step_by R (account_from image (word_at (heading_of m).account)) (rule_message m)).answer ≡ Err r
+      → live_by R image bytes buffer ≡ record { reply = Err r; image = image; buffer = buffer }
+  call-refused m consumed r read room answer =
       let a = account_from image (word_at (heading_of m).account) in
       live-finished R image bytes buffer m consumed a (record { read = read; room = room; account = refl }) (step_by R a (rule_message m)) refl ∙ rw answer refl
 
@@ -58,11 +57,11 @@ module _ (R : Rule State Event ℕ) (image bytes buffer : List ℕ) where
   unfolding live_by
   call-plain =
       record {
-        unread = λ n e. live-unread R image bytes buffer (Reading'.Refused n) n n (sym e) refl refl;
-        roomless = λ m consumed e l. live-roomless R image bytes buffer (Reading'.Message m consumed) m consumed (sym e) refl l;
+        unread = live-unread R image bytes buffer;
+        roomless = live-roomless R image bytes buffer;
         refused = call-refused;
         taken =
-            λ m consumed read room answer.
+            λ m consumed written read room answer.
             let a = account_from image (word_at (heading_of m).account) in
             live-finished R image bytes buffer m consumed a (record { read = read; room = room; account = refl }) (step_by R a (rule_message m)) refl ∙ rw answer refl;
         reply = refl;
@@ -85,7 +84,7 @@ plain-holds =
       look = look-plain;
       calls = λ R image x xs. record { none = refl; none_seen = refl; more = refl; more_seen = refl };
       stored =
-          λ image buffer rest a b c n m.
+          λ image buffer rest r a b c n m.
           record {
             refused = refl;
             refused_one = refl;
@@ -109,5 +108,8 @@ plain-holds =
             line = refl;
             line_one = refl;
             line_none = refl;
+            no_line = refl;
+            no_line_one = refl;
+            no_line_none = refl;
           };
     }

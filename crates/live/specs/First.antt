@@ -1,6 +1,7 @@
 -- The live calls of the first panel: the definitions, which are over any rule of the events, applied to it once.
 -- Assumes nothing.
-use Rattle.std.specs.Prelude.{ℕ, List}
+use Rattle.std.specs.Prelude.{ℕ, List, Result}
+use Rattle.refusal.specs.declared.Refusal.{Refusal}
 use Rattle.account.specs.declared.Outlook.{Outlook}
 use Rattle.account.specs.First.{panel}
 use Rattle.live.specs.Live.{Live, live_by, look_by}
@@ -11,7 +12,7 @@ use Rattle.live.specs.Exports.{ExportedCall, exported_call, ExportedLook, export
 abbrev pub live_of : (image bytes buffer : List ℕ) → Live
 live_of image bytes buffer = live_by panel image bytes buffer
 
-abbrev pub look_of : (image : List ℕ) (account number : ℕ) → Outlook
+abbrev pub look_of : (image : List ℕ) (account number : ℕ) → Result Outlook Refusal
 look_of image i n = look_by panel image i n
 
 -- what is said of keeping a register as an image (15.6 and 15.7)

@@ -1,15 +1,13 @@
 -- A register that is kept as an image over many calls (docs/REGISTER.md, 15.6 and 15.7): every call is the register's own, and goes by the words of the account that is named.
 -- Assumes nothing.
-use Rattle.std.specs.Prelude.{ℕ, ◌+◌, ◌*◌, ◌≤◌, ◌<◌, ◌≡◌, List, [], ◌∷◌, length, take, drop, replicate}
+use Rattle.std.specs.Prelude.{ℕ, Ok, Err, ◌+◌, ◌*◌, ◌≤◌, ◌<◌, ◌≡◌, List, [], ◌∷◌, length, take, drop, replicate}
 use Rattle.std.proofs.Math.Option.{some}
 use Rattle.rule.specs.Rule.{Rule}
 use Rattle.events.specs.declared.Event.{Event}
 use Rattle.events.specs.declared.State.{State}
-use Rattle.account.specs.declared.Outlook.TheVariants as Outlook'
+use Rattle.refusal.specs.Numbers.{numbered}
 use Rattle.message.specs.declared.Message.{Message}
-use Rattle.message.specs.declared.Reading.TheVariants as Reading'
 use Rattle.message.specs.Answers.{read_of}
-use Rattle.register.specs.declared.Reply.TheVariants.{Refused}
 use Rattle.register.specs.Register.{fresh_by}
 use Rattle.register.specs.Call.{refusal_of, called_by}
 use Rattle.register.specs.Refusals.{account_in}
@@ -33,8 +31,8 @@ module _ (R : Rule State Event ℕ) where
     pub before : take (account_in bytes * 84) (live_by R image bytes buffer).image ≡ take (account_in bytes * 84) image
     pub behind : drop (account_in bytes * 84 + 84) (live_by R image bytes buffer).image ≡ drop (account_in bytes * 84 + 84) image
     -- an image too short for that account gets 5, behind 1 to 4
-    pub short : (m : Message) (consumed : ℕ) → read_of bytes ≡ Reading'.Message m consumed → 323 ≤ length buffer → length image < account_in bytes * 84 + 84
-        → (live_by R image bytes buffer).reply ≡ Refused 5
+    pub short : (m : Message) (consumed : ℕ) → read_of bytes ≡ Ok (m, consumed) → 323 ≤ length buffer → length image < account_in bytes * 84 + 84
+        → (live_by R image bytes buffer).reply ≡ Err (numbered 5)
 
   -- two images with the same words of the account that is named get one reply and one buffer, and have the same words of it afterwards
   pub record OwnAlone (image other bytes buffer : List ℕ) : Type 0 where
@@ -65,7 +63,7 @@ module _ (R : Rule State Event ℕ) where
 
   -- the outcome question, which goes by the words of its account too: 5 where the image is too short for it
   pub record Looks (image : List ℕ) (account number : ℕ) : Type 0 where
-    pub short : account ≤ 15 → length image < account * 84 + 84 → look_by R image account number ≡ Outlook'.Refused 5
+    pub short : account ≤ 15 → length image < account * 84 + 84 → look_by R image account number ≡ Err (numbered 5)
     pub own : (other : List ℕ) → own_words image account ≡ own_words other account → look_by R image account number ≡ look_by R other account number
 
   pub record KeepingHoldsBy : Type 0 where

@@ -1,30 +1,29 @@
 -- The line of an entry that is given by its bytes (docs/REGISTER.md, 15.9).
 -- Assumes nothing.
-use Rattle.std.specs.Prelude.{ℕ, List}
-use Rattle.layout.specs.declared.Writing.{Writing}
-use Rattle.layout.specs.declared.Writing.TheVariants.{Written, Refused}
-use Rattle.entry.specs.declared.EntryReading.{EntryReading}
-use Rattle.entry.specs.declared.EntryReading.TheVariants.{Found, Nothing}
+use Rattle.std.specs.Prelude.{ℕ, List, Option, Some, None, Result, Ok, Err}
+use Rattle.refusal.specs.declared.Refusal.{Refusal}
+use Rattle.entry.specs.declared.Found.{Found}
 use Rattle.entry.specs.Answers.{read_of}
 use Rattle.text.specs.Text.{write_line_of}
 use Rattle.live.specs.declared.lines.Lined.{Lined}
 
--- how many bytes the entry has and how many its line, and every byte of the buffer
+-- how many bytes the entry has and how many its line, if there is one, and every byte of the buffer
 pub record Line : Type 0 where
-  pub lined : Lined
+  pub lined : Option Lined
   pub buffer : List ℕ
 
 abbrev pub no_line : List ℕ → Line
-no_line buffer = record { lined = record { entry = 0; line = 0 }; buffer = buffer }
+no_line buffer = record { lined = None; buffer = buffer }
 
 -- what the writer of lines gives for an entry of so many bytes: its line, or none where there is too little room
-abbrev pub line_written : (whole : ℕ) → Writing → (left : List ℕ) → Line
-line_written whole (Written n) left = record { lined = record { entry = whole; line = n }; buffer = left }
-line_written whole (Refused n) left = no_line left
+abbrev pub line_written : (whole : ℕ) → Result ℕ Refusal → (left : List ℕ) → Line
+line_written whole (Ok n) left = record { lined = Some (record { entry = whole; line = n }); buffer = left }
+line_written whole (Err refusal) left = no_line left
 
-abbrev pub line_found : (buffer : List ℕ) → EntryReading → Line
-line_found buffer Nothing = no_line buffer
-line_found buffer (Found e kind account whole) = line_written whole (write_line_of e kind account buffer).answer (write_line_of e kind account buffer).buffer
+abbrev pub line_found : (buffer : List ℕ) → Option (Found × ℕ) → Line
+line_found buffer None = no_line buffer
+line_found buffer (Some (found, whole)) =
+    line_written whole (write_line_of found.entry found.kind found.account buffer).answer (write_line_of found.entry found.kind found.account buffer).buffer
 
 unfoldable pub line_of_entry : (bytes buffer : List ℕ) → Line
 line_of_entry bytes buffer = line_found buffer (read_of bytes)

@@ -1,17 +1,17 @@
 -- The register of an image, a call on an image, the outcome question of one, and what a caller from outside gets, said a second time and over every content: by the account whose words
 -- begin at 84 times its number, and for any number of places that are lent (docs/REGISTER.md, 15.1 and 15.6 to 15.9).
 -- Assumes nothing.
-use Rattle.std.specs.Prelude.{ℕ, ◌*◌, ◌≤◌, ◌<◌, ◌≡◌, ◌↔◌, List, [], ◌∷◌, ◌++◌, length, take, drop, get_or}
+use Rattle.std.specs.Prelude.{ℕ, Some, None, Ok, Err, ◌*◌, ◌≤◌, ◌<◌, ◌≡◌, ◌↔◌, List, [], ◌∷◌, ◌++◌, length, take, drop, get_or}
 use Rattle.rule.specs.Rule.{Rule}
 use Rattle.events.specs.declared.Event.{Event}
 use Rattle.events.specs.declared.Life.TheVariants.{New, Opened, Closed}
 use Rattle.events.specs.declared.State.{State}
 use Rattle.account.specs.declared.Account.{Account}
-use Rattle.account.specs.declared.Answer.TheVariants as Answer'
-use Rattle.account.specs.declared.Outlook.TheVariants as Outlook'
+use Rattle.refusal.specs.declared.Refusal.{Refusal}
+use Rattle.refusal.specs.Numbers.{number_of, numbered}
+use Rattle.filing.specs.declared.Entries.{Entries}
 use Rattle.account.specs.Steps.{step_by, outlook_by}
 use Rattle.message.specs.declared.Message.{Message}
-use Rattle.message.specs.declared.Reading.TheVariants as Reading'
 use Rattle.message.specs.Bytes.{heading_of}
 use Rattle.message.specs.Answers.{read_of}
 use Rattle.entry.specs.Bytes.{bytes_of_entries}
@@ -19,7 +19,6 @@ use Rattle.image.specs.Words.{words_of, stored_in}
 use Rattle.image.specs.Reading.{account_from}
 use Rattle.image.specs.Images.{Kept}
 use Rattle.register.specs.declared.Register.{Register}
-use Rattle.register.specs.declared.Reply.TheVariants.{Refused, Taken}
 use Rattle.register.specs.Register.{nowhere, rule_message}
 use Rattle.register.specs.Call.{called_by}
 use Rattle.register.specs.Sequence.{Input}
@@ -48,19 +47,19 @@ pub record RegisterPlain : Type 0 where
 module _ (R : Rule State Event ℕ) where
   -- a call: the reader's refusal; 4; what the account answers that is read at its words
   pub record CallPlain (image bytes buffer : List ℕ) : Type 0 where
-    pub unread : (n : ℕ) → read_of bytes ≡ Reading'.Refused n → live_by R image bytes buffer ≡ record { reply = Refused n; image = image; buffer = buffer }
-    pub roomless : (m : Message) (consumed : ℕ) → read_of bytes ≡ Reading'.Message m consumed → length buffer < 323
-        → live_by R image bytes buffer ≡ record { reply = Refused 4; image = image; buffer = buffer }
-    pub refused : (m : Message) (consumed n : ℕ) → read_of bytes ≡ Reading'.Message m consumed → 323 ≤ length buffer
-        → (step_by R (account_from image ((heading_of m).account * 84)) (rule_message m)).answer ≡ Answer'.Refused n
-        → live_by R image bytes buffer ≡ record { reply = Refused n; image = image; buffer = buffer }
-    pub taken : (m : Message) (consumed : ℕ) → read_of bytes ≡ Reading'.Message m consumed → 323 ≤ length buffer
+    pub unread : (r : Refusal) → read_of bytes ≡ Err r → live_by R image bytes buffer ≡ record { reply = Err r; image = image; buffer = buffer }
+    pub roomless : (m : Message) (consumed : ℕ) → read_of bytes ≡ Ok (m, consumed) → length buffer < 323
+        → live_by R image bytes buffer ≡ record { reply = Err (numbered 4); image = image; buffer = buffer }
+    pub refused : (m : Message) (consumed : ℕ) (r : Refusal) → read_of bytes ≡ Ok (m, consumed) → 323 ≤ length buffer
+        → (step_by R (account_from image ((heading_of m).account * 84)) (rule_message m)).answer ≡ Err r
+        → live_by R image bytes buffer ≡ record { reply = Err r; image = image; buffer = buffer }
+    pub taken : (m : Message) (consumed : ℕ) (written : Entries) → read_of bytes ≡ Ok (m, consumed) → 323 ≤ length buffer
         → let stepped = step_by R (account_from image ((heading_of m).account * 84)) (rule_message m) in
-        let entries = bytes_of_entries (heading_of m).account (take stepped.entries.count stepped.entries.at) in
-        stepped.answer ≡ Answer'.Taken
+        let entries = bytes_of_entries (heading_of m).account (take written.count written.at) in
+        stepped.answer ≡ Ok written
         → live_by R image bytes buffer
         ≡ record {
-          reply = Taken consumed (length entries);
+          reply = Ok (record { consumed = consumed; written = length entries });
           image = stored_in image ((heading_of m).account * 84) stepped.account;
           buffer = entries ++ drop (length entries) buffer;
         }
@@ -70,7 +69,7 @@ module _ (R : Rule State Event ℕ) where
 
   -- the outcome question: 3, or what the account answers that is read at its words
   pub record LookPlain (image : List ℕ) (i n : ℕ) : Type 0 where
-    pub elsewhere : 15 < i → look_by R image i n ≡ Outlook'.Refused 3
+    pub elsewhere : 15 < i → look_by R image i n ≡ Err (numbered 3)
     pub asked : i ≤ 15 → look_by R image i n ≡ outlook_by R (account_from image (i * 84)) n
 
   -- many calls are one call, and then the others on the image that it leaves
@@ -83,33 +82,36 @@ module _ (R : Rule State Event ℕ) where
         live_exchanges R image (x ∷ xs) ≡ record { message = x.message; reply = called.reply; buffer = called.buffer } ∷ live_exchanges R called.image xs
 
 -- what is stored where a caller lends any number of places: of a call the two counts, 0 and 0 for a refusal; of the question three words, and for a refusal none; of a line two counts
-pub record PlacesPlain (image buffer rest : List ℕ) (a b c n m : ℕ) : Type 0 where
-  pub refused : exported_call (record { reply = Refused n; image = image; buffer = buffer }) (a ∷ b ∷ rest) ≡ record { answer = n; image = image; entries = buffer; counts = 0 ∷ 0 ∷ rest }
-  pub refused_one : exported_call (record { reply = Refused n; image = image; buffer = buffer }) (a ∷ []) ≡ record { answer = n; image = image; entries = buffer; counts = 0 ∷ [] }
-  pub refused_none : exported_call (record { reply = Refused n; image = image; buffer = buffer }) [] ≡ record { answer = n; image = image; entries = buffer; counts = [] }
-  pub taken : exported_call (record { reply = Taken n m; image = image; buffer = buffer }) (a ∷ b ∷ rest) ≡ record { answer = 0; image = image; entries = buffer; counts = n ∷ m ∷ rest }
-  pub taken_one : exported_call (record { reply = Taken n m; image = image; buffer = buffer }) (a ∷ []) ≡ record { answer = 0; image = image; entries = buffer; counts = n ∷ [] }
-  pub taken_none : exported_call (record { reply = Taken n m; image = image; buffer = buffer }) [] ≡ record { answer = 0; image = image; entries = buffer; counts = [] }
-  pub unlooked : exported_look (Outlook'.Refused n) rest ≡ record { answer = n; state = rest }
-  pub new : exported_look (Outlook'.State (record { life = New; balance = n }) m) (a ∷ b ∷ c ∷ rest) ≡ record { answer = 0; state = 0 ∷ n ∷ m ∷ rest }
-  pub opened : exported_look (Outlook'.State (record { life = Opened; balance = n }) m) (a ∷ b ∷ c ∷ rest) ≡ record { answer = 0; state = 1 ∷ n ∷ m ∷ rest }
-  pub closed : exported_look (Outlook'.State (record { life = Closed; balance = n }) m) (a ∷ b ∷ c ∷ rest) ≡ record { answer = 0; state = 2 ∷ n ∷ m ∷ rest }
-  pub opened_two : exported_look (Outlook'.State (record { life = Opened; balance = n }) m) (a ∷ b ∷ []) ≡ record { answer = 0; state = 1 ∷ n ∷ [] }
-  pub opened_one : exported_look (Outlook'.State (record { life = Opened; balance = n }) m) (a ∷ []) ≡ record { answer = 0; state = 1 ∷ [] }
-  pub new_two : exported_look (Outlook'.State (record { life = New; balance = n }) m) (a ∷ b ∷ []) ≡ record { answer = 0; state = 0 ∷ n ∷ [] }
-  pub closed_two : exported_look (Outlook'.State (record { life = Closed; balance = n }) m) (a ∷ b ∷ []) ≡ record { answer = 0; state = 2 ∷ n ∷ [] }
-  pub new_one : exported_look (Outlook'.State (record { life = New; balance = n }) m) (a ∷ []) ≡ record { answer = 0; state = 0 ∷ [] }
-  pub closed_one : exported_look (Outlook'.State (record { life = Closed; balance = n }) m) (a ∷ []) ≡ record { answer = 0; state = 2 ∷ [] }
-  pub new_none : exported_look (Outlook'.State (record { life = New; balance = n }) m) [] ≡ record { answer = 0; state = [] }
-  pub closed_none : exported_look (Outlook'.State (record { life = Closed; balance = n }) m) [] ≡ record { answer = 0; state = [] }
-  pub opened_none : exported_look (Outlook'.State (record { life = Opened; balance = n }) m) [] ≡ record { answer = 0; state = [] }
-  pub line : exported_line (record { lined = record { entry = n; line = m }; buffer = buffer }) (a ∷ b ∷ rest) ≡ record { answer = m; line = buffer; counts = n ∷ m ∷ rest }
-  pub line_one : exported_line (record { lined = record { entry = n; line = m }; buffer = buffer }) (a ∷ []) ≡ record { answer = m; line = buffer; counts = n ∷ [] }
-  pub line_none : exported_line (record { lined = record { entry = n; line = m }; buffer = buffer }) [] ≡ record { answer = m; line = buffer; counts = [] }
+pub record PlacesPlain (image buffer rest : List ℕ) (r : Refusal) (a b c n m : ℕ) : Type 0 where
+  pub refused : exported_call (record { reply = Err r; image = image; buffer = buffer }) (a ∷ b ∷ rest) ≡ record { answer = number_of r; image = image; entries = buffer; counts = 0 ∷ 0 ∷ rest }
+  pub refused_one : exported_call (record { reply = Err r; image = image; buffer = buffer }) (a ∷ []) ≡ record { answer = number_of r; image = image; entries = buffer; counts = 0 ∷ [] }
+  pub refused_none : exported_call (record { reply = Err r; image = image; buffer = buffer }) [] ≡ record { answer = number_of r; image = image; entries = buffer; counts = [] }
+  pub taken : exported_call (record { reply = Ok (record { consumed = n; written = m }); image = image; buffer = buffer }) (a ∷ b ∷ rest) ≡ record { answer = 0; image = image; entries = buffer; counts = n ∷ m ∷ rest }
+  pub taken_one : exported_call (record { reply = Ok (record { consumed = n; written = m }); image = image; buffer = buffer }) (a ∷ []) ≡ record { answer = 0; image = image; entries = buffer; counts = n ∷ [] }
+  pub taken_none : exported_call (record { reply = Ok (record { consumed = n; written = m }); image = image; buffer = buffer }) [] ≡ record { answer = 0; image = image; entries = buffer; counts = [] }
+  pub unlooked : exported_look (Err r) rest ≡ record { answer = number_of r; state = rest }
+  pub new : exported_look (Ok (record { state = record { life = New; balance = n }; applied = m })) (a ∷ b ∷ c ∷ rest) ≡ record { answer = 0; state = 0 ∷ n ∷ m ∷ rest }
+  pub opened : exported_look (Ok (record { state = record { life = Opened; balance = n }; applied = m })) (a ∷ b ∷ c ∷ rest) ≡ record { answer = 0; state = 1 ∷ n ∷ m ∷ rest }
+  pub closed : exported_look (Ok (record { state = record { life = Closed; balance = n }; applied = m })) (a ∷ b ∷ c ∷ rest) ≡ record { answer = 0; state = 2 ∷ n ∷ m ∷ rest }
+  pub opened_two : exported_look (Ok (record { state = record { life = Opened; balance = n }; applied = m })) (a ∷ b ∷ []) ≡ record { answer = 0; state = 1 ∷ n ∷ [] }
+  pub opened_one : exported_look (Ok (record { state = record { life = Opened; balance = n }; applied = m })) (a ∷ []) ≡ record { answer = 0; state = 1 ∷ [] }
+  pub new_two : exported_look (Ok (record { state = record { life = New; balance = n }; applied = m })) (a ∷ b ∷ []) ≡ record { answer = 0; state = 0 ∷ n ∷ [] }
+  pub closed_two : exported_look (Ok (record { state = record { life = Closed; balance = n }; applied = m })) (a ∷ b ∷ []) ≡ record { answer = 0; state = 2 ∷ n ∷ [] }
+  pub new_one : exported_look (Ok (record { state = record { life = New; balance = n }; applied = m })) (a ∷ []) ≡ record { answer = 0; state = 0 ∷ [] }
+  pub closed_one : exported_look (Ok (record { state = record { life = Closed; balance = n }; applied = m })) (a ∷ []) ≡ record { answer = 0; state = 2 ∷ [] }
+  pub new_none : exported_look (Ok (record { state = record { life = New; balance = n }; applied = m })) [] ≡ record { answer = 0; state = [] }
+  pub closed_none : exported_look (Ok (record { state = record { life = Closed; balance = n }; applied = m })) [] ≡ record { answer = 0; state = [] }
+  pub opened_none : exported_look (Ok (record { state = record { life = Opened; balance = n }; applied = m })) [] ≡ record { answer = 0; state = [] }
+  pub line : exported_line (record { lined = Some (record { entry = n; line = m }); buffer = buffer }) (a ∷ b ∷ rest) ≡ record { answer = m; line = buffer; counts = n ∷ m ∷ rest }
+  pub line_one : exported_line (record { lined = Some (record { entry = n; line = m }); buffer = buffer }) (a ∷ []) ≡ record { answer = m; line = buffer; counts = n ∷ [] }
+  pub line_none : exported_line (record { lined = Some (record { entry = n; line = m }); buffer = buffer }) [] ≡ record { answer = m; line = buffer; counts = [] }
+  pub no_line : exported_line (record { lined = None; buffer = buffer }) (a ∷ b ∷ rest) ≡ record { answer = 0; line = buffer; counts = 0 ∷ 0 ∷ rest }
+  pub no_line_one : exported_line (record { lined = None; buffer = buffer }) (a ∷ []) ≡ record { answer = 0; line = buffer; counts = 0 ∷ [] }
+  pub no_line_none : exported_line (record { lined = None; buffer = buffer }) [] ≡ record { answer = 0; line = buffer; counts = [] }
 
 pub record PlainHolds : Type 0 where
   pub registers : RegisterPlain
   pub call : (R : Rule State Event ℕ) (image bytes buffer : List ℕ) → CallPlain R image bytes buffer
   pub look : (R : Rule State Event ℕ) (image : List ℕ) (i n : ℕ) → LookPlain R image i n
   pub calls : (R : Rule State Event ℕ) (image : List ℕ) (x : Input) (xs : List Input) → CallsPlain R image x xs
-  pub stored : (image buffer rest : List ℕ) (a b c n m : ℕ) → PlacesPlain image buffer rest a b c n m
+  pub stored : (image buffer rest : List ℕ) (r : Refusal) (a b c n m : ℕ) → PlacesPlain image buffer rest r a b c n m

@@ -5,8 +5,10 @@
 mod call;
 mod export;
 mod lines;
-mod numbers;
 mod question;
+
+ghost use Rattle.std.specs.Prelude.{◌≡◌};
+ghost use Rattle.live.specs.Registers.{word_at};
 
 pub use call::call_image;
 pub use export::{nacozteya_call, nacozteya_line, nacozteya_outlook};
@@ -16,3 +18,10 @@ use register::Register;
 
 // The words of a register.
 pub const REGISTER_WORDS: usize = Register::ACCOUNTS * image::ACCOUNT_WORDS;
+
+// Where the words of an account begin.
+fn word_at(account: u16) -> usize
+    ensures { result ≡ word_at account }
+{
+    account as usize * image::ACCOUNT_WORDS
+}

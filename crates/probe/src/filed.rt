@@ -1,12 +1,6 @@
 // What is filed with an event, in frames and in the text: the one place of the probe that takes it apart.
-use crate::page;
 use crate::page::Page;
 use filing::Filed;
-
-// What a frame files, from that byte on.
-pub(crate) fn read(payload: &[u8], at: usize) -> Filed {
-    of(layout::number4(payload, at))
-}
 
 // What is filed, by its number.
 pub(crate) fn of(second: u32) -> Filed {
@@ -14,6 +8,6 @@ pub(crate) fn of(second: u32) -> Filed {
 }
 
 // Puts what is filed, behind a separator.
-pub(crate) fn put(page: &mut Page, at: usize, separator: u8, filed: Filed) -> usize {
-    page::part(page, at, separator, filed.second)
+pub(crate) fn put(page: &mut Page, separator: char, filed: Filed) {
+    write!(page, "{separator}{}", filed.second);
 }

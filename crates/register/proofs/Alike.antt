@@ -9,42 +9,40 @@ use native.Mathlib.Omega.{arith}
 use lib.Dec.{eqb, ltb}
 use lib.ListN.{length, take, drop, length-drop}
 use lib.Seq.{take-append-add, take-append_seam, length-take-le}
+use Rattle.refusal.specs.declared.Refusal.TheVariants.{NoRoom}
+use Rattle.std.specs.Prelude.{Result, Ok, Err}
+use Rattle.refusal.specs.declared.Refusal.{Refusal}
 use Rattle.rule.specs.Rule.{Rule}
 use Rattle.events.specs.declared.Event.{Event}
 use Rattle.events.specs.declared.State.{State}
 use Rattle.filing.specs.declared.Entries.{Entries}
-use Rattle.account.specs.declared.Answer.{Answer}
-use Rattle.account.specs.declared.Answer.TheVariants as Answer'
 use Rattle.message.specs.declared.Message.{Message}
-use Rattle.message.specs.declared.Reading.{Reading}
-use Rattle.message.specs.declared.Reading.TheVariants as Reading'
 use Rattle.message.specs.Bytes.{heading_of}
 use Rattle.message.specs.Answers.{read_of}
 use Rattle.entry.specs.Bytes.{bytes_of_entries, list_of}
 use Rattle.entry.specs.Answers.{longest_call}
 use Rattle.register.specs.declared.Register.{Register}
-use Rattle.register.specs.declared.Sent.{Sent}
 use Rattle.register.specs.declared.runs.Passed.{Passed}
-use Rattle.register.specs.Register.{fresh_by, sent_by}
-use Rattle.register.specs.Call.{Result, written_of, refused_with, wrote_as, wrote_of, after_message, after_reading, called_by}
+use Rattle.register.specs.Register.{fresh_by, sent_by, Sent}
+use Rattle.register.specs.Call.{Called, written_of, refused_with, wrote_as, wrote_of, after_message, after_reading, called_by}
 use Rattle.register.specs.Run.{Run, ended, length_at, passed_of, joined, first, turn_of, run_from, run_by, Alike, BufferNeverShows}
 use Rattle.register.proofs.Passing.{passed-written}
 use Rattle.register.proofs.Suits.{Suits}
 use Rattle.register.proofs.Moved.{call-moves}
 
 -- two results that differ at most in buffer bytes after the entries
-pub record Same (x y : Result) : Type 0 where
+pub record Same (x y : Called) : Type 0 where
   pub reply : x.reply ≡ y.reply
   pub register : x.register ≡ y.register
   pub entries : take (written_of x.reply) x.buffer ≡ take (written_of x.reply) y.buffer
 
 module _ (R : Rule State Event ℕ) (r : Register) (buffer other : List ℕ) (e : ltb (length buffer) longest_call ≡ ltb (length other) longest_call) where
-  same-refused : (n : ℕ) → Same (refused_with r buffer n) (refused_with r other n)
+  same-refused : (n : Refusal) → Same (refused_with r buffer n) (refused_with r other n)
   same-refused n = record { reply = refl; register = refl; entries = refl }
 
-  same-wrote : (i consumed : ℕ) (answer : Answer) (next : Register) (entries : Entries) → Same (wrote_as r buffer i consumed answer next entries) (wrote_as r other i consumed answer next entries)
-  same-wrote i consumed (Answer'.Refused n) next entries = same-refused n
-  same-wrote i consumed Answer'.Taken next entries =
+  same-wrote : (i consumed : ℕ) (answer : Result Entries Refusal) (next : Register) → Same (wrote_as r buffer i consumed answer next) (wrote_as r other i consumed answer next)
+  same-wrote i consumed (Err n) next = same-refused n
+  same-wrote i consumed (Ok entries) next =
       let xs = bytes_of_entries i (list_of entries) in
       record {
         reply = refl;
@@ -62,13 +60,13 @@ module _ (R : Rule State Event ℕ) (r : Register) (buffer other : List ℕ) (e 
       sent : Sent
       sent = sent_by R r m
 
-      go : (b : Bool) → Same (cond b (refused_with r buffer 4) (wrote_of r buffer i consumed sent)) (cond b (refused_with r other 4) (wrote_of r other i consumed sent))
-      go true = same-refused 4
-      go false = same-wrote i consumed sent.answer sent.register sent.entries
+      go : (b : Bool) → Same (cond b (refused_with r buffer NoRoom) (wrote_of r buffer i consumed sent)) (cond b (refused_with r other NoRoom) (wrote_of r other i consumed sent))
+      go true = same-refused NoRoom
+      go false = same-wrote i consumed sent.answer sent.register
 
-  same-reading : (x : Reading) → Same (after_reading R r buffer x) (after_reading R r other x)
-  same-reading (Reading'.Refused n) = same-refused n
-  same-reading (Reading'.Message m consumed) = same-message m consumed
+  same-reading : (x : Result (Message × ℕ) Refusal) → Same (after_reading R r buffer x) (after_reading R r other x)
+  same-reading (Err n) = same-refused n
+  same-reading (Ok (m, consumed)) = same-message m consumed
 
   pub same-call : (bytes : List ℕ) → Same (called_by R r bytes buffer) (called_by R r bytes other)
   unfolding called_by
@@ -97,12 +95,12 @@ module _ (R : Rule State Event ℕ) (k : Suits R) where
 
   module _ (f : Register → (bytes buffer : List ℕ) → Run) (h : GoAlike f) (bytes : List ℕ) where
     -- what follows a call
-    after : Result → Run
+    after : Called → Run
     after x =
         let p = passed_of x.reply (length_at bytes) in
         joined (first p x.buffer) (cond p.stops (ended (drop p.written x.buffer)) (f x.register (drop p.consumed bytes) (drop p.written x.buffer)))
 
-    alike-after : (x y : Result) → Same x y → length x.buffer ≡ length y.buffer → (passed_of x.reply (length_at bytes)).written ≤ length x.buffer → Alike (after x) (after y)
+    alike-after : (x y : Called) → Same x y → length x.buffer ≡ length y.buffer → (passed_of x.reply (length_at bytes)).written ≤ length x.buffer → Alike (after x) (after y)
     unfolding after GoAlike
     alike-after x y s size room =
         rw (← s.reply, ← s.register)

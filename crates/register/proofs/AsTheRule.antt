@@ -2,11 +2,15 @@
 -- by cases on its answer.
 -- Assumes nothing.
 use Prim.Native.Nat.{ℕ, ◌≤◌}
-use mathlib.Core.Path.{◌≡◌, refl}
+use mathlib.Core.Path.{◌≡◌, refl, ap}
 use mathlib.Core.Bool.{true}
 use mathlib.Core.List.{List}
 use borrow.Author.Tests.{le-ltb}
 use lib.ListN.{length}
+use mathlib.Core.Option.{some}
+use Rattle.register.proofs.Sending.{answer-number}
+use Rattle.refusal.specs.Numbers.{number_of, numbered}
+use Rattle.std.specs.Prelude.{Ok}
 use Rattle.rule.specs.Rule.{Rule}
 use Rattle.rule.specs.Call as Rule-Call
 use Rattle.events.specs.declared.Event.{Event}
@@ -18,7 +22,6 @@ use Rattle.account.specs.InOrder.{in_order_by}
 use Rattle.account.specs.Steps.{stepped_by, step_by}
 use Rattle.entry.proofs.CallFits.{listed}
 use Rattle.message.specs.declared.Message.{Message}
-use Rattle.message.specs.declared.Reading.TheVariants as Reading'
 use Rattle.message.specs.Bytes.{heading_of}
 use Rattle.message.specs.Answers.{read_of}
 use Rattle.register.specs.declared.Register.{Register}
@@ -30,13 +33,14 @@ use Rattle.register.proofs.ReadAs.{read_as, account-read}
 
 -- the rule's answer, in places and from them in bytes
 answer-ruled : (r : Register) (buffer : List ℕ) (i consumed : ℕ) (a : Account) (next : RuleAccount) (answer : Rule-Call.Answer Filed Event ℕ)
+    → ((n : ℕ) → answer ≡ Rule-Call.refused n → number_of (numbered n) ≡ n)
     → RuledBy r buffer i consumed next answer (wrote_of r buffer i consumed (sent_in r i (stepped_by a next answer)))
-answer-ruled r buffer i consumed a next (Rule-Call.refused n) = record { refusal' = refl; consumed' = refl; written' = refl; register' = refl; buffer' = refl }
-answer-ruled r buffer i consumed a next (Rule-Call.taken xs) =
+answer-ruled r buffer i consumed a next (Rule-Call.refused n) own = record { refusal' = ap some (own n refl); consumed' = refl; written' = refl; register' = refl; buffer' = refl }
+answer-ruled r buffer i consumed a next (Rule-Call.taken xs) own =
     rw (listed xs) (record { refusal' = refl; consumed' = refl; written' = refl; register' = refl; buffer' = refl })
 
 module _ (R : Rule State Event ℕ) where
-  pub as-the-rule : (r : Register) (bytes buffer : List ℕ) (m : Message) (consumed : ℕ) → read_of bytes ≡ Reading'.Message m consumed → 323 ≤ length buffer
+  pub as-the-rule : (r : Register) (bytes buffer : List ℕ) (m : Message) (consumed : ℕ) → read_of bytes ≡ Ok (m, consumed) → 323 ≤ length buffer
       → in_order_by R (account_at r (account_in bytes)) ≡ true
       → Ruled r buffer (account_in bytes) consumed (Rule-Call.call R (lists_of (account_at r (account_in bytes))) (rule_message m)) (called_by R r bytes buffer)
   unfolding called_by after_message sent_by step_by
@@ -44,7 +48,7 @@ module _ (R : Rule State Event ℕ) where
       let i = account_in bytes in
       let called = Rule-Call.call R (lists_of (account_at r i)) (rule_message m) in
       rw (read, account-read bytes m consumed read, le-ltb (length buffer) 323 room, le-ltb 15 i (read_as bytes m consumed read).account, order)
-      (answer-ruled r buffer i consumed (account_at r i) called.account called.answer)
+      (answer-ruled r buffer i consumed (account_at r i) called.account called.answer (answer-number R (lists_of (account_at r i)) (rule_message m)))
 
   pub sent-as-the-rule : (r : Register) (m : Message) → (heading_of m).account ≤ 15 → in_order_by R (account_at r (heading_of m).account) ≡ true
       → let called = Rule-Call.call R (lists_of (account_at r (heading_of m).account)) (rule_message m) in

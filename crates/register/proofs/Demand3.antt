@@ -11,6 +11,10 @@ use lib.Dec.{eqb}
 use lib.ListN.{length, take, drop, length-set, get_or-replicate}
 use lib.Seq.{take_at, get_or-set_same, get_or-set_other}
 use borrow.Author.Tests.{eqb-true, eqb-false}
+use Rattle.register.proofs.Apart.{same-read}
+use Rattle.refusal.specs.Numbers.{number_of}
+use Rattle.std.specs.Prelude.{Result, Ok, Err}
+use Rattle.refusal.specs.declared.Refusal.{Refusal}
 use Rattle.rule.specs.Rule as rule
 use Rattle.rule.specs.Call as Rule-Call
 use Rattle.rule.specs.History.{Seen}
@@ -26,11 +30,9 @@ use Rattle.account.specs.declared.Account.{Account}
 use Rattle.account.specs.Places.{RuleAccount, lists_of, account_of}
 use Rattle.account.proofs.Padded.{lists-account}
 use Rattle.layout.specs.Number.{AreBytes}
-use Rattle.layout.specs.Answers.{laid_over}
+use Rattle.layout.specs.Writes.{laid_over}
 use Rattle.message.specs.declared.Message.{Message}
 use Rattle.message.specs.declared.Message.TheVariants.{Request, Commit, Abort}
-use Rattle.message.specs.declared.Reading.{Reading}
-use Rattle.message.specs.declared.Reading.TheVariants as Reading'
 use Rattle.message.specs.Bytes.{heading_of}
 use Rattle.message.specs.Answers.{read_of}
 use Rattle.message.specs.Inverse.{Writable}
@@ -38,7 +40,7 @@ use Rattle.message.proofs.Inverse.{writes-read}
 use Rattle.entry.specs.Bytes.{bytes_of_entries}
 use Rattle.register.specs.declared.Register.{Register}
 use Rattle.register.specs.Register.{nowhere, account_at, rule_message, fresh_by}
-use Rattle.register.specs.Call.{Result, refusal_of, written_of, refused_with, called_by}
+use Rattle.register.specs.Call.{Called, refusal_of, written_of, refused_with, called_by}
 use Rattle.register.specs.Fits.{EventFits, CommitFits, StateFits, BalanceFits}
 use Rattle.register.specs.Sequence.{rule_entry, Input, ByteStrings, after, exchanges, answer_in, seen_of, seen_by, entries_in, OnlyEntries, EachOnlyEntries, SerialPast}
 use Rattle.register.proofs.Suits.{Suits}
@@ -106,18 +108,18 @@ module _ (R : rule.Rule State Event ℕ) (k : Suits R) where
   -- One call on the account that it names.
   module _ (r : Register) (bytes buffer : List ℕ) (m : Message) (w : Writable m) (seen : List (Seen Filed Event ℕ))
       (sixteen : length r.accounts ≡ 16) (h : Keeps (account_at r (heading_of m).account) seen) where
-    record Kept (x : Result) : Type 0 where
+    record Kept (x : Called) : Type 0 where
       size : length x.register.accounts ≡ 16
       others : (i : ℕ) → (i ≡ (heading_of m).account → ⊥) → account_at x.register i ≡ account_at r i
       named : Keeps (account_at x.register (heading_of m).account) (seen ++ (record { message = rule_message m; answer = answer_in x.reply x.buffer } ∷ []))
       whole : refusal_of x.reply ≡ none → WholeUnder (heading_of m).account (take (written_of x.reply) x.buffer)
 
-    kept-refused : (n : ℕ) → Kept (refused_with r buffer n)
+    kept-refused : (n : Refusal) → Kept (refused_with r buffer n)
     kept-refused n =
         record {
           size = sixteen;
           others = λ i other. refl;
-          named = record { lists = h.lists; same = h.same; told = refusal-told R h.lists seen (rule_message m) n h.told; fit = h.fit };
+          named = record { lists = h.lists; same = h.same; told = refusal-told R h.lists seen (rule_message m) (number_of n) h.told; fit = h.fit };
           whole = λ e. let z : ◌≡◌ {A = ℕ} 0 1 = cc in absurd (omega arith);
         }
 
@@ -137,10 +139,10 @@ module _ (R : rule.Rule State Event ℕ) (k : Suits R) where
           whole = λ e. rw (first, back) refl;
         }
 
-    kept : (consumed : ℕ) → read_of bytes ≡ Reading'.Message m consumed → {x : Result} → Calling R r bytes buffer x → Kept x
+    kept : (consumed : ℕ) → read_of bytes ≡ Ok (m, consumed) → {x : Called} → Calling R r bytes buffer x → Kept x
     kept consumed q (refused n why) = kept-refused n
     kept consumed q (taken m' consumed' t) =
-        let same : m' ≡ m = let z : Reading'.Message m' consumed' ≡ Reading'.Message m consumed = sym t.read ∙ q in cc in
+        let same : m' ≡ m = (same-read m' m consumed' consumed (sym t.read ∙ q)).0 in
         rw same (kept-taken consumed' (rw same at t.free))
 
   -- One call, on every account.
@@ -153,14 +155,14 @@ module _ (R : rule.Rule State Event ℕ) (k : Suits R) where
       × OnlyEntries (record { message = bytes; reply = (called_by R r bytes buffer).reply; buffer = (called_by R r bytes buffer).buffer })
   call_kept r bytes buffer seen b h = by (read_of bytes) refl (calling R r bytes buffer)
     where
-      by : (y : Reading) → read_of bytes ≡ y → {x : Result} → Calling R r bytes buffer x
+      by : (y : Result (Message × ℕ) Refusal) → read_of bytes ≡ y → {x : Called} → Calling R r bytes buffer x
           → Sees x.register (λ (i : ℕ). seen i ++ seen_of i x.reply x.buffer y) × OnlyEntries (record { message = bytes; reply = x.reply; buffer = x.buffer })
-      by (Reading'.Refused n) q (refused n' why) =
+      by (Err n) q (refused n' why) =
           (record { sixteen = h.sixteen; each = λ i l. rw (append-nil (seen i)) (h.each i l) }, λ e. let z : ◌≡◌ {A = ℕ} 0 1 = cc in absurd (omega arith))
-      by (Reading'.Refused n) q (taken m consumed t) =
-          let y : Reading'.Refused n ≡ Reading'.Message m consumed = sym q ∙ t.read in
+      by (Err n) q (taken m consumed t) =
+          let y : ◌≡◌ {A = Result (Message × ℕ) Refusal} (Err n) (Ok (m, consumed)) = sym q ∙ t.read in
           let z : ◌≡◌ {A = ℕ} 0 1 = cc in absurd (omega arith)
-      by (Reading'.Message m consumed) q {x} c =
+      by (Ok (m, consumed)) q {x} c =
           (record { sixteen = one.size; each = λ i l. named i l (eqb (heading_of m).account i) refl }, λ e. rw (← account-read bytes m consumed q) (one.whole e))
         where
           w : Writable m

@@ -10,6 +10,9 @@ use borrow.Author.Tests.{eqb-true, eqb-false, ltb-false}
 use lib.Dec.{eqb, ltb}
 use lib.ListN.{length-set, get_or-replicate}
 use lib.Seq.{get_or-set_same, get_or-set_other}
+use Rattle.refusal.specs.Numbers.{numbered}
+use Rattle.refusal.specs.declared.Refusal.{Refusal}
+use Rattle.refusal.specs.declared.Refusal.TheVariants.{UnknownAccount}
 use Rattle.rule.specs.Rule as rule
 use Rattle.rule.specs.Call as Rule-Call
 use Rattle.rule.specs.InOrder as rule-order
@@ -22,7 +25,6 @@ use Rattle.filing.specs.declared.Filed.{Filed}
 use Rattle.filing.specs.declared.Entry.{Entry}
 use Rattle.filing.specs.Entries.{RuleEntry, entries_of, entry_of}
 use Rattle.account.specs.declared.Account.{Account}
-use Rattle.account.specs.declared.Answer.TheVariants as Answer'
 use Rattle.account.specs.Places.{RuleAccount, lists_of, account_of}
 use Rattle.account.specs.Steps.{stepped_by, step_by}
 use Rattle.account.proofs.Padded.{lists-account}
@@ -83,7 +85,7 @@ module _ (R : rule.Rule State Event ℕ) (k : Suits R) (f : Filed → Filed) whe
 
   -- Two registers, and the account that is named.
   module _ (r r' : Register) (same : SameRegister R f r r') where
-    refused-same : (n : ℕ) → SameSent R f (not_sent r (Answer'.Refused n)) (not_sent r' (Answer'.Refused n))
+    refused-same : (n : Refusal) → SameSent R f (not_sent r n) (not_sent r' n)
     refused-same n = record { answers = refl; entries = refl; registers = same }
 
     -- another account in the same place
@@ -105,7 +107,7 @@ module _ (R : rule.Rule State Event ℕ) (k : Suits R) (f : Filed → Filed) whe
     module _ (i : ℕ) (l : i ≤ last_account) (a a' : Account) (next next' : RuleAccount) (h : SameAccount R f (account_of next) (account_of next')) where
       stepped_same : (answer answer' : Rule-Call.Answer Filed Event ℕ) → answer_through f answer ≡ answer_through f answer'
           → SameSent R f (sent_in r i (stepped_by a next answer)) (sent_in r' i (stepped_by a' next' answer'))
-      stepped_same (Rule-Call.refused n) (Rule-Call.refused n') e = let z : n ≡ n' = cc in rw z (refused-same n')
+      stepped_same (Rule-Call.refused n) (Rule-Call.refused n') e = let z : n ≡ n' = cc in rw z (refused-same (numbered n'))
       stepped_same (Rule-Call.refused n) (Rule-Call.taken xs') e = let z : ◌≡◌ {A = ℕ} 0 1 = cc in absurd (omega arith)
       stepped_same (Rule-Call.taken xs) (Rule-Call.refused n') e = let z : ◌≡◌ {A = ℕ} 0 1 = cc in absurd (omega arith)
       stepped_same (Rule-Call.taken xs) (Rule-Call.taken xs') e =
@@ -143,9 +145,9 @@ module _ (R : rule.Rule State Event ℕ) (k : Suits R) (f : Filed → Filed) whe
         i = (heading_of m').account
 
         go : (b : Bool) → ltb last_account i ≡ b
-            → SameSent R f (cond b (not_sent r (Answer'.Refused 3)) (sent_in r i (step_by R (account_at r i) (rule_message m))))
-            (cond b (not_sent r' (Answer'.Refused 3)) (sent_in r' i (step_by R (account_at r' i) (rule_message m'))))
-        go true z = refused-same 3
+            → SameSent R f (cond b (not_sent r UnknownAccount) (sent_in r i (step_by R (account_at r i) (rule_message m))))
+            (cond b (not_sent r' UnknownAccount) (sent_in r' i (step_by R (account_at r' i) (rule_message m'))))
+        go true z = refused-same UnknownAccount
         go false z = step_same m m' i (ltb-false last_account i z) e
 
   -- a fresh register

@@ -29,7 +29,7 @@ use Rattle.message.specs.declared.Message.{Message}
 use Rattle.message.specs.Bytes.{heading_of}
 use Rattle.register.specs.declared.Register.{Register}
 use Rattle.register.specs.Register.{nowhere, account_at, rule_message, fresh_by, asked_by}
-use Rattle.register.specs.Call.{Result, refusal_of, called_by}
+use Rattle.register.specs.Call.{Called, refusal_of, called_by}
 use Rattle.register.specs.Refusals.{account_in, call_tests, outlook_tests, answered_as}
 use Rattle.register.specs.Sequence.{Input, after}
 use Rattle.register.proofs.Suits.{Suits}
@@ -71,10 +71,10 @@ module _ (R : rule.Rule State Event ℕ) (k : Suits R) where
   set-order (x ∷ accounts) (suc i) a h all zero = all zero
   set-order (x ∷ accounts) (suc i) a h all (suc j) = set-order accounts i a h (λ n. all (suc n)) j
 
-  call_kept : {bytes buffer : List ℕ} {x : Result} (r : Register) → Calling R r bytes buffer x → InOrder r → InOrder x.register
+  call_kept : {bytes buffer : List ℕ} {x : Called} (r : Register) → Calling R r bytes buffer x → InOrder r → InOrder x.register
   call_kept {bytes = bytes} {buffer = buffer} {x = x} r c all = by r x c all
     where
-      by : (r : Register) (x : Result) → Calling R r bytes buffer x → InOrder r → InOrder x.register
+      by : (r : Register) (x : Called) → Calling R r bytes buffer x → InOrder r → InOrder x.register
       by r x (refused n why) all = all
       by r x (taken m consumed t) all =
           set-order r.accounts (heading_of m).account (account_of (taking R r m).account) (order-account R (taking R r m).account (taken-order r m t.free)) all

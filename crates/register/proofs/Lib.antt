@@ -1,3 +1,4 @@
+pub mod Apart
 pub mod ReadAs
 pub mod Whole
 pub mod Passing
@@ -19,13 +20,10 @@ pub mod Seconds
 pub mod AsTheRule
 pub mod Own
 pub mod Underway
+pub mod Turned
 pub mod WholeRuns
 pub mod Alike
-pub mod Turned
-pub mod Reached
 pub mod Writes
-pub mod Votes
-pub mod Accounts
 pub mod RunCalls
 pub mod RunSeconds
 pub mod Longest

@@ -8,6 +8,8 @@ use mathlib.Core.List.{List, map}
 use native.Mathlib.Omega.{arith}
 use lib.ListN.{length, drop, length-append, length-drop}
 use lib.Seq.{drop-append_seam}
+use Rattle.std.specs.Prelude.{Ok, Err}
+use Rattle.refusal.specs.Numbers.{number_of}
 use Rattle.rule.specs.Rule.{Rule}
 use Rattle.events.specs.declared.Event.{Event}
 use Rattle.events.specs.declared.State.{State}
@@ -16,10 +18,8 @@ use Rattle.message.specs.Bytes.{heading_of}
 use Rattle.entry.specs.Bytes.{bytes_of_entries}
 use Rattle.entry.specs.Answers.{longest_call}
 use Rattle.register.specs.declared.Register.{Register}
-use Rattle.register.specs.declared.Reply.{Reply}
-use Rattle.register.specs.declared.Reply.TheVariants.{Refused, Taken}
 use Rattle.register.specs.declared.runs.Passed.{Passed}
-use Rattle.register.specs.Call.{Result, called_by}
+use Rattle.register.specs.Call.{Called, called_by, Reply}
 use Rattle.register.specs.Run.{length_at, passed_of}
 use Rattle.register.proofs.Whole.{some_bytes}
 use Rattle.register.proofs.Passing.{passed-stops, passed-skips}
@@ -30,8 +30,8 @@ use Rattle.register.proofs.Calling.{Calling, refused, taken, calling}
 
 -- what a reply tells of the bytes
 abbrev pub Tells : (bytes : List ℕ) → Reply → Type 0
-Tells bytes (Refused n) = Refusable bytes n
-Tells bytes (Taken consumed written) = (consumed ≡ length_at bytes) × Stands bytes
+Tells bytes (Err n) = Refusable bytes (number_of n)
+Tells bytes (Ok done) = (done.consumed ≡ length_at bytes) × Stands bytes
 
 -- what a message does to the buffer, and what it comes to
 pub record Moved (bytes buffer left : List ℕ) (passed : Passed) : Type 0 where
@@ -43,11 +43,11 @@ pub record Moved (bytes buffer left : List ℕ) (passed : Passed) : Type 0 where
   pub forward : passed.stops ≡ false → 0 < passed.consumed
 
 module _ (R : Rule State Event ℕ) (k : Suits R) (r : Register) (bytes buffer : List ℕ) where
-  tells : {x : Result} → Calling R r bytes buffer x → Tells bytes x.reply
+  tells : {x : Called} → Calling R r bytes buffer x → Tells bytes x.reply
   tells (refused n why) = why
   tells (taken m consumed t) = rw t.read at (reading-tells bytes)
 
-  moves : {x : Result} → Calling R r bytes buffer x → Moved bytes buffer x.buffer (passed_of x.reply (length_at bytes))
+  moves : {x : Called} → Calling R r bytes buffer x → Moved bytes buffer x.buffer (passed_of x.reply (length_at bytes))
   moves (refused n (inl which)) =
       rw (passed-stops n (length_at bytes) which)
       (record { size = refl; room = omega arith; stays = refl; once = omega arith; within = omega arith; forward = λ z. absurd (true≢false z) })

@@ -12,6 +12,9 @@ use borrow.Author.Tests.{ltb-true, ltb-false, eqb-true, eqb-false}
 use lib.Dec.{eqb, ltb}
 use lib.ListN.{length, get_or, take, drop, length-append, length-take}
 use lib.Seq.{slice, take-nil, get_or-take, get_or-drop, take_at, drop_at}
+use Rattle.std.specs.Prelude.{Result, Ok, Err}
+use Rattle.refusal.specs.declared.Refusal.{Refusal}
+use Rattle.refusal.specs.declared.Refusal.TheVariants.{Torn, UnknownAccount, UnknownKind}
 use Rattle.rule.specs.Filed.{message_through, entry_through}
 use Rattle.filing.specs.declared.Filed.{Filed}
 use Rattle.filing.specs.declared.Told.{Told}
@@ -29,8 +32,6 @@ use Rattle.layout.proofs.Heading.{filed_at}
 use Rattle.message.specs.declared.Heading.{Heading}
 use Rattle.message.specs.declared.Message.{Message}
 use Rattle.message.specs.declared.Message.TheVariants.{Request, Commit, Abort}
-use Rattle.message.specs.declared.Reading.{Reading}
-use Rattle.message.specs.declared.Reading.TheVariants as Reading'
 use Rattle.message.specs.Bytes.{messages, heading_of, message_by}
 use Rattle.message.specs.Answers.{read_numbers, read_kind, read_of}
 use Rattle.entry.specs.Bytes.{bytes_as, entry_rows, kind_of, then_numbers, bytes_of_entry, bytes_of_entries}
@@ -46,10 +47,10 @@ abbrev pub forget : Filed → Filed
 forget g = blank_filed
 
 -- two readings that differ at most in what is filed: the same refusal, or messages of the same length to the same account
-pub data SameReading : Reading → Reading → Type 0 where
-  same-refusal : (number : ℕ) → SameReading (Reading'.Refused number) (Reading'.Refused number)
+pub data SameReading : Result (Message × ℕ) Refusal → Result (Message × ℕ) Refusal → Type 0 where
+  same-refusal : (refusal : Refusal) → SameReading (Err refusal) (Err refusal)
   same-message : (m m' : Message) (whole : ℕ) → (heading_of m).account ≡ (heading_of m').account → message_through forget (rule_message m) ≡ message_through forget (rule_message m')
-      → SameReading (Reading'.Message m whole) (Reading'.Message m' whole)
+      → SameReading (Ok (m, whole)) (Ok (m', whole))
 
 -- Numbers that stand before the second, or behind it within the message's length.
 module _ (bytes bytes' : List ℕ) (other : SameMessage bytes bytes') where
@@ -111,13 +112,13 @@ module _ (kind transaction account amount : ℕ) (g g' : Filed) where
   chosen commits aborts x = cond commits (Commit (headed x)) (cond aborts (Abort (headed x)) (Request (headed x) (event_of kind amount)))
 
   chosen-same : (commits aborts : Bool) (whole : ℕ)
-      → SameReading (Reading'.Message (chosen commits aborts g) whole) (Reading'.Message (chosen commits aborts g') whole)
+      → SameReading (Ok (chosen commits aborts g, whole)) (Ok (chosen commits aborts g', whole))
   chosen-same true aborts whole = same-message (Commit (headed g)) (Commit (headed g')) whole refl refl
   chosen-same false true whole = same-message (Abort (headed g)) (Abort (headed g')) whole refl refl
   chosen-same false false whole = same-message (Request (headed g) (event_of kind amount)) (Request (headed g') (event_of kind amount)) whole refl refl
 
   message-same : (whole : ℕ)
-      → SameReading (Reading'.Message (message_by kind (headed g) amount) whole) (Reading'.Message (message_by kind (headed g') amount) whole)
+      → SameReading (Ok (message_by kind (headed g) amount, whole)) (Ok (message_by kind (headed g') amount, whole))
   unfolding message_by
   message-same whole = chosen-same (eqb kind 5) (eqb kind 6) whole
 
@@ -126,27 +127,27 @@ numbers-same : (kind transaction account whole : ℕ) (g g' : Filed) (amounts : 
     → SameReading (read_numbers whole (heading_numbers kind transaction account g ++ amounts)) (read_numbers whole (heading_numbers kind transaction account g' ++ amounts))
 numbers-same kind transaction account whole g g' amounts = go (ltb last_account account)
   where
-    reading : Bool → Filed → Reading
+    reading : Bool → Filed → Result (Message × ℕ) Refusal
     reading above x =
-        cond above (Reading'.Refused 3)
-        (Reading'.Message (message_by kind (record { transaction = transaction; account = account; filed = x }) (get_or amounts 0 0)) whole)
+        cond above (Err UnknownAccount)
+        (Ok (message_by kind (record { transaction = transaction; account = account; filed = x }) (get_or amounts 0 0), whole))
 
     go : (above : Bool) → SameReading (reading above g) (reading above g')
-    go true = same-refusal 3
+    go true = same-refusal UnknownAccount
     go false = message-same kind transaction account (get_or amounts 0 0) g g' whole
 
 -- and so are bytes
 module _ (bytes bytes' : List ℕ) (other : SameMessage bytes bytes') where
   kind-same : (found : Option KindRow) → row_of_kind messages (number_at bytes 0 1) ≡ found → SameReading (read_kind found bytes) (read_kind found bytes')
   unfolding numbers_at
-  kind-same none e = same-refusal 2
+  kind-same none e = same-refusal UnknownKind
   kind-same (some r) e = rw (short-same bytes bytes' other r.whole (row-length bytes r e)) (go (ltb (length bytes') r.whole))
     where
       numbers : List ℕ → List ℕ
       numbers s = numbers_at (widths_of (some r)) s 0
 
-      go : (short : Bool) → SameReading (cond short (Reading'.Refused 1) (read_numbers r.whole (numbers bytes))) (cond short (Reading'.Refused 1) (read_numbers r.whole (numbers bytes')))
-      go true = same-refusal 1
+      go : (short : Bool) → SameReading (cond short (Err Torn) (read_numbers r.whole (numbers bytes))) (cond short (Err Torn) (read_numbers r.whole (numbers bytes')))
+      go true = same-refusal Torn
       go false =
           rw (
             number-before bytes bytes' other 0 1 (omega arith),
@@ -163,8 +164,8 @@ module _ (bytes bytes' : List ℕ) (other : SameMessage bytes bytes') where
       row' : Option KindRow
       row' = row_of_kind messages (number_at bytes 0 1)
 
-      go : (empty : Bool) → SameReading (cond empty (Reading'.Refused 1) (read_kind row' bytes)) (cond empty (Reading'.Refused 1) (read_kind row' bytes'))
-      go true = same-refusal 1
+      go : (empty : Bool) → SameReading (cond empty (Err Torn) (read_kind row' bytes)) (cond empty (Err Torn) (read_kind row' bytes'))
+      go true = same-refusal Torn
       go false = kind-same row' refl
 
 -- a part is the beginning of what is left
@@ -219,7 +220,7 @@ module _ (account transaction : ℕ) (told : Told) where
       }
 
 -- what an entry says besides what is filed stays where that is forgotten
-abbrev forgotten : Entry → RuleEntry
+abbrev pub forgotten : Entry → RuleEntry
 forgotten e = entry_through forget (rule_entry e)
 
 forgotten-told : (e : Entry) → (entry_of (forgotten e)).told ≡ e.told

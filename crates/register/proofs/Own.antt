@@ -35,7 +35,7 @@ use Rattle.message.proofs.Inverse.{writes-read}
 use Rattle.entry.specs.Bytes.{entry_rows, vote_kind, reason_numbers, bytes_as, bytes_of_entry, bytes_of_entries}
 use Rattle.register.specs.declared.Register.{Register}
 use Rattle.register.specs.Register.{account_at, rule_message}
-use Rattle.register.specs.Call.{Result, refusal_of, written_of}
+use Rattle.register.specs.Call.{Called, refusal_of, written_of}
 use Rattle.register.specs.Own.{OwnEntry, EachOwnEntry}
 use Rattle.register.proofs.Sending.{lists, taking}
 use Rattle.register.proofs.Calling.{Calling, refused, taken, calling}
@@ -153,7 +153,7 @@ own-shape (Abort h) a xs rest tail s = rw s.5 (own-abort h rest tail s.0 s.1 s.2
 
 module _ (R : rule.Rule State Event ℕ) where
   -- of a call that is taken
-  own-taken : (r : Register) (bytes buffer : List ℕ) → AreBytes bytes → {x : Result} → Calling R r bytes buffer x → refusal_of x.reply ≡ none
+  own-taken : (r : Register) (bytes buffer : List ℕ) → AreBytes bytes → {x : Called} → Calling R r bytes buffer x → refusal_of x.reply ≡ none
       → OwnEntry bytes (written_of x.reply) x.buffer
   own-taken r bytes buffer b (refused n why) h = let z : ◌≡◌ {A = ℕ} 0 1 = cc in absurd (omega arith)
   own-taken r bytes buffer b (taken m whole t) h =

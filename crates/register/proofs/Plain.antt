@@ -7,6 +7,7 @@ use mathlib.Core.List.{List}
 use borrow.Author.Tests.{lt-ltb, le-ltb, ne_eqb}
 use lib.ListN.{length}
 use lib.Seq.{get_or_at, set_at}
+use Rattle.std.specs.Prelude.{Ok}
 use Rattle.rule.specs.Rule as rule
 use Rattle.events.specs.declared.Event.{Event}
 use Rattle.events.specs.declared.State.{State}
@@ -16,7 +17,6 @@ use Rattle.account.specs.Steps.{step_by}
 use Rattle.layout.specs.Fields.{row_of_kind}
 use Rattle.layout.specs.Number.{number_at}
 use Rattle.message.specs.declared.Message.{Message}
-use Rattle.message.specs.declared.Reading.TheVariants as Reading'
 use Rattle.message.specs.Bytes.{messages, heading_of}
 use Rattle.message.specs.Answers.{read_of}
 use Rattle.entry.proofs.CallFits.{listed}
@@ -30,7 +30,7 @@ use Rattle.register.proofs.ReadBack.{value-back}
 
 module _ (R : rule.Rule State Event ℕ) where
   -- the account that a message which was read names is one of sixteen
-  known : (bytes : List ℕ) (m : Message) (consumed : ℕ) → read_of bytes ≡ Reading'.Message m consumed → (heading_of m).account ≤ 15
+  known : (bytes : List ℕ) (m : Message) (consumed : ℕ) → read_of bytes ≡ Ok (m, consumed) → (heading_of m).account ≤ 15
   known bytes m consumed read = omega (arith, account-read bytes m consumed read, (read_as bytes m consumed read).account)
 
   call-plain : (r : Register) (bytes buffer : List ℕ) → CallPlain R r bytes buffer
@@ -82,7 +82,7 @@ entries-plain most bytes x =
     record {
       none' = refl;
       whole = refl;
-      found = λ e kind account whole read. rw read refl;
+      found = λ x whole read. rw read refl;
       ended = λ read. rw read refl;
       refused = λ n. refl;
       taken = λ consumed written. refl;

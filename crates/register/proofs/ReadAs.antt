@@ -9,13 +9,16 @@ use native.Mathlib.Omega.{arith}
 use lib.Dec.{eqb, leb, ltb}
 use lib.ListN.{length, get_or}
 use borrow.Author.Tests.{eqb-true, eqb-false, ltb-true, ltb-false, leb-true, leb-false}
+use Rattle.register.proofs.Apart.{same-read}
+use Rattle.refusal.specs.declared.Refusal.{Refusal}
+use Rattle.std.specs.Prelude.{Ok, Err, Result}
+use Rattle.refusal.specs.declared.Refusal.TheVariants.{Torn, UnknownAccount, UnknownKind}
 use Rattle.layout.specs.Number.{number_at}
 use Rattle.layout.specs.Fields.{row_of_kind, whole_of}
 use Rattle.events.specs.Kinds.{event_of}
 use Rattle.message.specs.declared.Heading.{Heading}
 use Rattle.message.specs.declared.Message.{Message}
 use Rattle.message.specs.declared.Message.TheVariants.{Request, Commit, Abort}
-use Rattle.message.specs.declared.Reading.TheVariants as Reading'
 use Rattle.message.specs.Bytes.{messages, kind_of, heading_of, message_by}
 use Rattle.message.specs.Answers.{read_of}
 use Rattle.message.proofs.Lengths.{with_amount, without_amount, below-kinds, above-kinds}
@@ -92,16 +95,16 @@ module _ (bytes : List ℕ) where
 
   -- the reader by its tests
   pub reading : read_of bytes ≡
-      cond (eqb (length bytes) 0) (Reading'.Refused 1)
-      (cond (not (leb 1 kind_in && leb kind_in 6)) (Reading'.Refused 2)
-      (cond (ltb (length bytes) (length_by kind_in)) (Reading'.Refused 1)
-      (cond (ltb 15 (account_in bytes)) (Reading'.Refused 3) (Reading'.Message message_in (length_by kind_in)))))
+      cond (eqb (length bytes) 0) (Err Torn)
+      (cond (not (leb 1 kind_in && leb kind_in 6)) (Err UnknownKind)
+      (cond (ltb (length bytes) (length_by kind_in)) (Err Torn)
+      (cond (ltb 15 (account_in bytes)) (Err UnknownAccount) (Ok (message_in, length_by kind_in)))))
   reading = go (eqb (length bytes) 0) (leb 1 kind_in && leb kind_in 6) (ltb (length bytes) (length_by kind_in)) (ltb 15 (account_in bytes)) refl refl refl refl
     where
       go : (a b c d : Bool) → eqb (length bytes) 0 ≡ a → leb 1 kind_in && leb kind_in 6 ≡ b → ltb (length bytes) (length_by kind_in) ≡ c → ltb 15 (account_in bytes) ≡ d
           → read_of bytes
-          ≡ cond a (Reading'.Refused 1)
-          (cond (not b) (Reading'.Refused 2) (cond c (Reading'.Refused 1) (cond d (Reading'.Refused 3) (Reading'.Message message_in (length_by kind_in)))))
+          ≡ cond a (Err Torn)
+          (cond (not b) (Err UnknownKind) (cond c (Err Torn) (cond d (Err UnknownAccount) (Ok (message_in, length_by kind_in)))))
       go true b c d p q s u = read-empty bytes (eqb-true (length bytes) 0 p)
       go false false c d p q s u = read-unknown bytes kind_in 0 (eqb-false (length bytes) 0 p) (sym kind_at) (sym (whole-unknown q)) refl
       go false true true d p q s u =
@@ -123,32 +126,32 @@ module _ (bytes : List ℕ) where
     pub message : m ≡ message_in
     pub length' : consumed ≡ length_by kind_in
 
-  not-message : (n : ℕ) (m : Message) (consumed : ℕ) → Reading'.Refused n ≡ Reading'.Message m consumed → ⊥
+  not-message : (n : Refusal) (m : Message) (consumed : ℕ) → ◌≡◌ {A = Result (Message × ℕ) Refusal} (Err n) (Ok (m, consumed)) → ⊥
   not-message n m consumed e = let z : ◌≡◌ {A = ℕ} 0 1 = cc in omega arith
 
-  pub read_as : (m : Message) (consumed : ℕ) → read_of bytes ≡ Reading'.Message m consumed → Read m consumed
+  pub read_as : (m : Message) (consumed : ℕ) → read_of bytes ≡ Ok (m, consumed) → Read m consumed
   read_as m consumed e =
       go (eqb (length bytes) 0) (leb 1 kind_in) (leb kind_in 6) (ltb (length bytes) (length_by kind_in)) (ltb 15 (account_in bytes)) refl refl refl refl (sym reading ∙ e)
     where
       go : (a b b' c d : Bool) → leb 1 kind_in ≡ b → leb kind_in 6 ≡ b' → ltb (length bytes) (length_by kind_in) ≡ c → ltb 15 (account_in bytes) ≡ d
-          → cond a (Reading'.Refused 1)
-          (cond (not (b && b')) (Reading'.Refused 2) (cond c (Reading'.Refused 1) (cond d (Reading'.Refused 3) (Reading'.Message message_in (length_by kind_in)))))
-          ≡ Reading'.Message m consumed
+          → cond {A = Result (Message × ℕ) Refusal} a (Err Torn)
+          (cond (not (b && b')) (Err UnknownKind) (cond c (Err Torn) (cond d (Err UnknownAccount) (Ok (message_in, length_by kind_in)))))
+          ≡ Ok (m, consumed)
           → Read m consumed
-      go true b b' c d p q s u e = absurd (not-message 1 m consumed e)
-      go false false b' c d p q s u e = absurd (not-message 2 m consumed e)
-      go false true false c d p q s u e = absurd (not-message 2 m consumed e)
-      go false true true true d p q s u e = absurd (not-message 1 m consumed e)
-      go false true true false true p q s u e = absurd (not-message 3 m consumed e)
+      go true b b' c d p q s u e = absurd (not-message Torn m consumed e)
+      go false false b' c d p q s u e = absurd (not-message UnknownKind m consumed e)
+      go false true false c d p q s u e = absurd (not-message UnknownKind m consumed e)
+      go false true true true d p q s u e = absurd (not-message Torn m consumed e)
+      go false true true false true p q s u e = absurd (not-message UnknownAccount m consumed e)
       go false true true false false p q s u e =
           record {
             lowest = leb-true 1 kind_in p;
             highest = leb-true kind_in 6 q;
             whole = ltb-false (length bytes) (length_by kind_in) s;
             account = ltb-false 15 (account_in bytes) u;
-            message = let z : m ≡ message_in = cc in z;
-            length' = let z : consumed ≡ length_by kind_in = cc in z;
+            message = sym (same-read message_in m (length_by kind_in) consumed e).0;
+            length' = sym (same-read message_in m (length_by kind_in) consumed e).1;
           }
 
-  pub account-read : (m : Message) (consumed : ℕ) → read_of bytes ≡ Reading'.Message m consumed → (heading_of m).account ≡ account_in bytes
+  pub account-read : (m : Message) (consumed : ℕ) → read_of bytes ≡ Ok (m, consumed) → (heading_of m).account ≡ account_in bytes
   account-read m consumed e = ap (λ (m' : Message). (heading_of m').account) (read_as m consumed e).message ∙ named-account

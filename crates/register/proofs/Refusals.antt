@@ -5,11 +5,16 @@ use Prim.Native.Nat.{ℕ, suc, ◌≤◌, ◌^◌}
 use mathlib.Core.Path.{◌≡◌, refl, ◌∙◌, ap, ap₂}
 use mathlib.Core.Bool.{Bool, true, false, cond, ◌&&◌, ◌||◌, not}
 use mathlib.Core.List.{List, [], ◌∷◌, map}
-use mathlib.Core.Option.{Option, none, some}
+use mathlib.Core.Option.{none, some}
 use lib.Count.{ones}
 use lib.Dec.{eqb, leb, ltb}
 use lib.ListN.{length, length-map}
 use borrow.Author.Tests.{leb-true, leb-false, lt-ltb, le-ltb, ltb-false}
+use Rattle.account.proofs.Refused.{step-answer}
+use Rattle.filing.specs.declared.Entries.{Entries}
+use Rattle.refusal.specs.declared.Refusal.{Refusal}
+use Rattle.std.specs.Prelude.{Ok, Err, Result}
+use Rattle.refusal.specs.declared.Refusal.TheVariants.{NoSuchOutcome, NotInOrder, Torn, UnknownAccount, UnknownKind, NoRoom}
 use Rattle.rule.specs.Lists.{some_of, keep}
 use Rattle.rule.specs.Rule as rule
 use Rattle.rule.specs.Tests.{Test, test, first_of}
@@ -28,22 +33,17 @@ use Rattle.filing.specs.declared.Decision.TheVariants.{Undecided, Committed}
 use Rattle.filing.specs.declared.Slot.{Slot}
 use Rattle.filing.specs.Slots.{is_undecided, decision_of, slot_of}
 use Rattle.account.specs.declared.Account.{Account}
-use Rattle.account.specs.declared.Answer.{Answer}
-use Rattle.account.specs.declared.Answer.TheVariants as Answer'
-use Rattle.account.specs.declared.Outlook.TheVariants as Outlook'
 use Rattle.account.specs.Places.{lists_of}
 use Rattle.account.specs.InOrder.{in_order_by}
-use Rattle.account.specs.Steps.{refusal_in, refused_by, stepped_by, step_by, shown_by, outlook_by}
+use Rattle.account.specs.Steps.{refusal_in, step_by, shown_by, outlook_by}
 use Rattle.message.specs.declared.Message.{Message}
 use Rattle.message.specs.declared.Message.TheVariants.{Request, Commit, Abort}
-use Rattle.message.specs.declared.Reading.TheVariants as Reading'
 use Rattle.message.specs.Bytes.{kind_of, heading_of}
 use Rattle.message.proofs.Reader.{heading_at}
 use Rattle.layout.specs.Fields.{last_account}
 use Rattle.layout.specs.Number.{number_at}
 use Rattle.register.specs.declared.Register.{Register}
-use Rattle.register.specs.declared.Sent.{Sent}
-use Rattle.register.specs.Register.{account_at, rule_message, not_sent, sent_in, sent_by, asked_by}
+use Rattle.register.specs.Register.{account_at, rule_message, not_sent, sent_in, sent_by, asked_by, Sent}
 use Rattle.register.specs.Call.{refusal_of, refused_with, wrote_of, after_message, after_reading, called_by}
 use Rattle.register.specs.Refusals.{transaction_in, account_in, length_by, progress_in, held_in, is_in_progress, is_held, is_committed, undecided_in, answered_as, account_tests, SendRefuses, CallRefuses, OutlookTells}
 use Rattle.register.proofs.ReadAs.{transaction-at, kind_in, message_in, named-account, reading, heading-by, kind-by}
@@ -101,21 +101,8 @@ module _ (R : rule.Rule State Event ℕ) (a : Account) where
   rule-refusal (Commit h) = let t = h.transaction in rw (named-used t (progress_in a), named-used t (held_in a), committed-used t (progress_in a))
   rule-refusal (Abort h) = let t = h.transaction in rw (named-used t (progress_in a), named-used t (held_in a), committed-used t (progress_in a))
 
-  -- a step's refusal: 5, or the rule's
-  step-refusal : (m : rule.Message Filed Event) → refusal_in (step_by R a m).answer ≡ cond (not (in_order_by R a)) (some 5) (Rule-Call.refusal R (lists_of a) m)
-  unfolding step_by Rule-Call.call
-  step-refusal m = go (in_order_by R a) (Rule-Call.refusal R (lists_of a) m)
-    where
-      by : Option ℕ → Rule-Call.Called Filed State Event ℕ
-      by o = Rule-Call.call_by o (lists_of a) (rule-step.step R (lists_of a) m)
-
-      go : (b : Bool) (o : Option ℕ) → refusal_in (cond b (stepped_by a (by o).account (by o).answer) (refused_by a 5)).answer ≡ cond (not b) (some 5) o
-      go true none = refl
-      go true (some n) = refl
-      go false o = refl
-
   account-refusal : (m : Message) → refusal_in (step_by R a (rule_message m)).answer ≡ first_of (account_tests R (kind_of m) a (heading_of m).transaction)
-  account-refusal m = step-refusal (rule_message m) ∙ ap (cond (not (in_order_by R a)) (some 5)) (rule-refusal m)
+  account-refusal m = step-answer R a (rule_message m) ∙ ap (cond (not (in_order_by R a)) (some 5)) (rule-refusal m)
 
 module _ (R : rule.Rule State Event ℕ) where
   -- a message as a value
@@ -123,11 +110,11 @@ module _ (R : rule.Rule State Event ℕ) where
   unfolding sent_by
   send-refuses r m = go (ltb 15 (heading_of m).account) ∙ ap (cond (ltb 15 (heading_of m).account) (some 3)) (account-refusal R (account_at r (heading_of m).account) m)
     where
-      sent-answer : (i : ℕ) (answer : Answer) (next : Account) → refusal_in (sent_in r i (record { account = next; entries = (step_by R (account_at r i) (rule_message m)).entries; answer = answer })).answer ≡ refusal_in answer
-      sent-answer i (Answer'.Refused n) next = refl
-      sent-answer i Answer'.Taken next = refl
+      sent-answer : (i : ℕ) (answer : Result Entries Refusal) (next : Account) → refusal_in (sent_in r i (record { account = next; answer = answer })).answer ≡ refusal_in answer
+      sent-answer i (Err n) next = refl
+      sent-answer i (Ok entries) next = refl
 
-      go : (b : Bool) → refusal_in (cond b (not_sent r (Answer'.Refused 3)) (sent_in r (heading_of m).account (step_by R (account_at r (heading_of m).account) (rule_message m)))).answer
+      go : (b : Bool) → refusal_in (cond b (not_sent r (UnknownAccount)) (sent_in r (heading_of m).account (step_by R (account_at r (heading_of m).account) (rule_message m)))).answer
           ≡ cond b (some 3) (refusal_in (step_by R (account_at r (heading_of m).account) (rule_message m)).answer)
       go true = refl
       go false =
@@ -139,9 +126,9 @@ module _ (R : rule.Rule State Event ℕ) where
   pub wrote-refusal : (r : Register) (buffer : List ℕ) (i consumed : ℕ) (sent : Sent) → refusal_of (wrote_of r buffer i consumed sent).reply ≡ refusal_in sent.answer
   wrote-refusal r buffer i consumed sent = go sent.answer
     where
-      go : (answer : Answer) → refusal_of (wrote_of r buffer i consumed (record { register = sent.register; entries = sent.entries; answer = answer })).reply ≡ refusal_in answer
-      go (Answer'.Refused n) = refl
-      go Answer'.Taken = refl
+      go : (answer : Result Entries Refusal) → refusal_of (wrote_of r buffer i consumed (record { register = sent.register; answer = answer })).reply ≡ refusal_in answer
+      go (Err n) = refl
+      go (Ok entries) = refl
 
   module _ (r : Register) (bytes buffer : List ℕ) where
     after-message : 1 ≤ kind_in bytes → kind_in bytes ≤ 6 → account_in bytes ≤ last_account
@@ -167,7 +154,7 @@ module _ (R : rule.Rule State Event ℕ) where
               transaction-at bytes,
             )
 
-        go : (b : Bool) → refusal_of (cond b (refused_with r buffer 4) (wrote_of r buffer i (length_by (kind_in bytes)) (sent_by R r m))).reply
+        go : (b : Bool) → refusal_of (cond b (refused_with r buffer NoRoom) (wrote_of r buffer i (length_by (kind_in bytes)) (sent_by R r m))).reply
             ≡ cond b (some 4) (first_of (account_tests R (kind_in bytes) (account_at r (account_in bytes)) (transaction_in bytes)))
         go true = refl
         go false = wrote-refusal r buffer i (length_by (kind_in bytes)) (sent_by R r m) ∙ sent-refusal
@@ -187,9 +174,9 @@ module _ (R : rule.Rule State Event ℕ) where
       go : (a b b' c d : Bool) → leb 1 kind ≡ b → leb kind 6 ≡ b' → ltb 15 (account_in bytes) ≡ d
           → refusal_of
           (after_reading R r buffer
-          (cond a (Reading'.Refused 1)
-          (cond (not (b && b')) (Reading'.Refused 2)
-          (cond c (Reading'.Refused 1) (cond d (Reading'.Refused 3) (Reading'.Message (message_in bytes) (length_by kind))))))
+          (cond a (Err Torn)
+          (cond (not (b && b')) (Err UnknownKind)
+          (cond c (Err Torn) (cond d (Err UnknownAccount) (Ok (message_in bytes, length_by kind))))))
           ).reply
           ≡ first_of (test a 1 ∷ test (not (b && b')) 2 ∷ test c 1 ∷ test d 3 ∷ rest)
       go true b b' c d p q s = refl
@@ -233,7 +220,7 @@ module _ (R : rule.Rule State Event ℕ) where
       s = a.state
 
       go : (b c d : Bool) → leb (2 ^ undecided_in a) n ≡ d
-          → shown_by (cond b (Outlook'.Refused 3) (cond c (cond (not d) (Outlook'.State (chosen_state R xs (bit n) s) (applied_in xs n)) (Outlook'.Refused 12)) (Outlook'.Refused 5)))
+          → shown_by (cond b (Err UnknownAccount) (cond c (cond (not d) (Ok (record { state = chosen_state R xs (bit n) s; applied = applied_in xs n })) (Err NoSuchOutcome)) (Err NotInOrder)))
           ≡ answered_as (first_of (test b 3 ∷ test (not c) 5 ∷ test d 12 ∷ [])) (chosen_state R xs (bit n) s) (ones n)
       go true c d p = refl
       go false false d p = refl

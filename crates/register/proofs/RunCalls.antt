@@ -11,16 +11,17 @@ use lib.Dec.{eqb}
 use lib.ListN.{length, take, drop, length-append, length-drop}
 use lib.Seq.{take_all, drop-drop, length-take-le, get_or-drop}
 use borrow.Author.Tests.{eqb-true, eqb-false}
+use Rattle.refusal.specs.Numbers.{number_of}
+use Rattle.refusal.specs.declared.Refusal.{Refusal}
+use Rattle.std.specs.Prelude.{Ok, Err}
 use Rattle.rule.specs.Rule.{Rule}
 use Rattle.events.specs.declared.Event.{Event}
 use Rattle.events.specs.declared.State.{State}
 use Rattle.layout.specs.Number.{AreBytes}
 use Rattle.register.specs.declared.Register.{Register}
-use Rattle.register.specs.declared.Reply.{Reply}
-use Rattle.register.specs.declared.Reply.TheVariants.{Refused, Taken}
 use Rattle.register.specs.declared.runs.Ran.{Ran}
 use Rattle.register.specs.Register.{fresh_by}
-use Rattle.register.specs.Call.{Result, called_by}
+use Rattle.register.specs.Call.{Called, called_by, Reply}
 use Rattle.register.specs.Sequence.{Input, Exchange, ByteStrings, exchanges}
 use Rattle.register.specs.Run.{Run, ended as ended-run, numbers_of, length_at, passed_of, joined, first, run_from, run_by}
 use Rattle.register.specs.RunCalls.{Calls, ended, stopped, skipped, taken, refused_among, entries_among, Sums, IsCalls, RunIsItsCalls, RunDemand3}
@@ -60,7 +61,7 @@ sums_none buffer = record { counts = refl; exported = refl; entries = refl }
 
 module _ (x : Exchange) (seen : List Exchange) (whole passed : ℕ) (rest : Run) where
   -- one call more: refused,
-  sums-refused : (buffer out : List ℕ) (n : ℕ) (stops : Bool) → x.reply ≡ Refused n → Sums buffer seen passed rest
+  sums-refused : (buffer out : List ℕ) (n : Refusal) (stops : Bool) → x.reply ≡ Err n → Sums buffer seen passed rest
       → Sums buffer (x ∷ seen) (whole + passed) (joined (first (record { refused = 1; consumed = whole; written = 0; stops = stops }) out) rest)
   sums-refused buffer out n stops q s =
       by_number buffer (x ∷ seen) (whole + passed) _
@@ -71,7 +72,7 @@ module _ (x : Exchange) (seen : List Exchange) (whole passed : ℕ) (rest : Run)
       (rw q s.entries)
 
   -- or taken
-  sums-taken : (buffer : List ℕ) (written : ℕ) → x.reply ≡ Taken whole written → written ≤ length x.buffer → drop written x.buffer ≡ drop written buffer
+  sums-taken : (buffer : List ℕ) (written : ℕ) → x.reply ≡ Ok (record { consumed = whole; written = written }) → written ≤ length x.buffer → drop written x.buffer ≡ drop written buffer
       → Sums (drop written x.buffer) seen passed rest
       → Sums buffer (x ∷ seen) (whole + passed) (joined (first (record { refused = 0; consumed = whole; written = written; stops = false }) x.buffer) rest)
   sums-taken buffer written q l e s =
@@ -89,7 +90,7 @@ module _ (R : Rule State Event ℕ) (k : Suits R) where
   -- A turn of a run that goes on from there by its calls.
   module _ (f : Register → (bytes buffer : List ℕ) → Run) (r : Register) (bytes buffer : List ℕ)
       (h : (n : Register) (xs ys : List ℕ) → length xs < length bytes → IsCalls R n xs ys (f n xs ys)) (more : 0 < length bytes) where
-    called : Result
+    called : Called
     called = called_by R r bytes buffer
 
     turn : Reply → Run
@@ -102,7 +103,7 @@ module _ (R : Rule State Event ℕ) (k : Suits R) where
     seen : Exchange
     seen = record { message = bytes; reply = called.reply; buffer = called.buffer }
 
-    turn-stops : (n : ℕ) → called.reply ≡ Refused n → (n ≡ 1) ⊎ (n ≡ 2) → called.buffer ≡ buffer → IsCalls R r bytes buffer (turn (Refused n))
+    turn-stops : (n : Refusal) → called.reply ≡ Err n → (number_of n ≡ 1) ⊎ (number_of n ≡ 2) → called.buffer ≡ buffer → IsCalls R r bytes buffer (turn (Err n))
     unfolding called turn seen
     turn-stops n q which same =
         rw (passed-stops n (length_at bytes) which, same)
@@ -113,7 +114,7 @@ module _ (R : Rule State Event ℕ) (k : Suits R) where
           sums = sums-refused seen [] 0 0 (ended-run buffer) buffer buffer n true q (sums_none buffer);
         })
 
-    turn-skips : (n : ℕ) → called.reply ≡ Refused n → 3 ≤ n → Stands bytes → called.buffer ≡ buffer → IsCalls R r bytes buffer (turn (Refused n))
+    turn-skips : (n : Refusal) → called.reply ≡ Err n → 3 ≤ number_of n → Stands bytes → called.buffer ≡ buffer → IsCalls R r bytes buffer (turn (Err n))
     unfolding called turn seen
     turn-skips n q high stands same =
         let whole = length_at bytes in
@@ -126,8 +127,11 @@ module _ (R : Rule State Event ℕ) (k : Suits R) where
           sums = sums-refused seen (exchanges R called.register more-calls.inputs) whole more-calls.passed _ buffer buffer n false q more-calls.sums;
         })
 
-    turn-takes : (written : ℕ) → called.reply ≡ Taken (length_at bytes) written → Stands bytes → Moved bytes buffer called.buffer (passed_of (Taken (length_at bytes) written) (length_at bytes))
-        → IsCalls R r bytes buffer (turn (Taken (length_at bytes) written))
+    abbrev took : ℕ → Reply
+    took written = Ok (record { consumed = length_at bytes; written = written })
+
+    turn-takes : (written : ℕ) → called.reply ≡ took written → Stands bytes → Moved bytes buffer called.buffer (passed_of (took written) (length_at bytes))
+        → IsCalls R r bytes buffer (turn (took written))
     unfolding called turn seen
     turn-takes written q stands m =
         let whole = length_at bytes in
@@ -141,9 +145,12 @@ module _ (R : Rule State Event ℕ) (k : Suits R) where
         }
 
     turn_is : (reply : Reply) → called.reply ≡ reply → Tells bytes reply → Moved bytes buffer called.buffer (passed_of reply (length_at bytes)) → IsCalls R r bytes buffer (turn reply)
-    turn_is (Refused n) q (inl which) m = turn-stops n q which (rw (passed-stops n (length_at bytes) which) at m.stays)
-    turn_is (Refused n) q (inr (high, stands)) m = turn-skips n q high stands (rw (passed-skips n (length_at bytes) high) at m.stays)
-    turn_is (Taken consumed written) q t m = rw t.0 (turn-takes written (rw t.0 at q) t.1 (rw t.0 at m))
+    turn_is (Err n) q (inl which) m = turn-stops n q which (rw (passed-stops n (length_at bytes) which) at m.stays)
+    turn_is (Err n) q (inr (high, stands)) m = turn-skips n q high stands (rw (passed-skips n (length_at bytes) high) at m.stays)
+    turn_is (Ok done) q t m = rw t.0 (turn-takes done.written (q ∙ same) t.1 (rw t.0 at m))
+      where
+        same : Ok done ≡ took done.written
+        same = λ i. Ok (record { consumed = t.0 i; written = done.written })
 
   -- a run of no bytes
   no_call : (r : Register) (bytes buffer : List ℕ) (run : Run) → length bytes ≡ 0 → run ≡ ended-run buffer → IsCalls R r bytes buffer run

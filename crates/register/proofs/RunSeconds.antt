@@ -10,16 +10,15 @@ use native.Mathlib.Omega.{arith}
 use lib.Dec.{eqb}
 use lib.ListN.{length, take, drop}
 use lib.Seq.{take-append-add, drop-append-add, length-take-le}
+use Rattle.std.specs.Prelude.{Ok, Err}
 use Rattle.rule.specs.Rule.{Rule}
 use Rattle.events.specs.declared.Event.{Event}
 use Rattle.events.specs.declared.State.{State}
 use Rattle.entry.specs.Bytes.{bytes_of_entry}
 use Rattle.register.specs.declared.Register.{Register}
-use Rattle.register.specs.declared.Reply.{Reply}
-use Rattle.register.specs.declared.Reply.TheVariants.{Refused, Taken}
 use Rattle.register.specs.declared.runs.Passed.{Passed}
 use Rattle.register.specs.Register.{fresh_by}
-use Rattle.register.specs.Call.{Result, written_of, called_by}
+use Rattle.register.specs.Call.{Called, written_of, called_by, Reply}
 use Rattle.register.specs.Whole.{Whole}
 use Rattle.register.specs.Seconds.{SameMessage, SameEntries, nothing_written, entry}
 use Rattle.register.specs.Run.{Run, ended, length_at, passed_of, joined, first, turn_of, run_from, run_by}
@@ -59,9 +58,9 @@ same-joined p out out' x y h h' e s =
 
 -- a message that the run goes on from is passed by its whole length
 passes : (bytes : List ℕ) (reply : Reply) → Tells bytes reply → (passed_of reply (length_at bytes)).stops ≡ false → ((passed_of reply (length_at bytes)).consumed ≡ length_at bytes) × Stands bytes
-passes bytes (Refused n) (inl which) s = absurd (true≢false (rw (passed-stops n (length_at bytes) which) at s))
-passes bytes (Refused n) (inr (high, stands)) s = (rw (passed-skips n (length_at bytes) high), stands)
-passes bytes (Taken consumed written) t s = t
+passes bytes (Err n) (inl which) s = absurd (true≢false (rw (passed-stops n (length_at bytes) which) at s))
+passes bytes (Err n) (inr (high, stands)) s = (rw (passed-skips n (length_at bytes) high), stands)
+passes bytes (Ok taken) t s = t
 
 module _ (R : Rule State Event ℕ) (k : Suits R) where
   -- both runs go on alike
@@ -70,10 +69,10 @@ module _ (R : Rule State Event ℕ) (k : Suits R) where
 
   module _ (f : Register → (bytes buffer : List ℕ) → Run) (h : GoSame f) (r r' : Register) (bytes bytes' buffer : List ℕ) (registers : SameRegister R r r') (same : SameMessage bytes bytes')
       (behind : (whole : ℕ) → Whole bytes whole → whole ≤ length bytes → SameMessages (drop whole bytes) (drop whole bytes')) where
-    called : Result
+    called : Called
     called = called_by R r bytes buffer
 
-    called' : Result
+    called' : Called
     called' = called_by R r' bytes' buffer
 
     both : SameResult R called called'
@@ -89,7 +88,7 @@ module _ (R : Rule State Event ℕ) (k : Suits R) where
     passed-same = rw (← both.replies, ← number-before bytes bytes' same 0 1 (omega arith))
 
     -- what follows the calls
-    after : Result → Passed → (s : List ℕ) → Run
+    after : Called → Passed → (s : List ℕ) → Run
     after x q s =
         let left = drop q.written x.buffer in
         joined (first q x.buffer) (cond q.stops (ended left) (f x.register (drop q.consumed s) left))

@@ -13,6 +13,7 @@ use Rattle.rule.specs.Rule.{Rule}
 use Rattle.events.specs.declared.Event.{Event}
 use Rattle.events.specs.declared.State.{State}
 use Rattle.filing.specs.Entries.{entries_of}
+use Rattle.account.specs.Steps as steps
 use Rattle.account.specs.Steps.{refusal_in}
 use Rattle.message.specs.declared.Message.{Message}
 use Rattle.message.specs.Bytes.{heading_of, bytes_of_message, length_of_message}
@@ -22,8 +23,7 @@ use Rattle.entry.specs.Bytes.{bytes_of_entries, list_of}
 use Rattle.entry.specs.Answers.{longest_call}
 use Rattle.entry.proofs.CallFits.{listed}
 use Rattle.register.specs.declared.Register.{Register}
-use Rattle.register.specs.declared.Sent.{Sent}
-use Rattle.register.specs.Register.{fresh_by, sent_by}
+use Rattle.register.specs.Register.{fresh_by, sent_by, Sent}
 use Rattle.register.specs.Call.{wrote_of, after_message, called_by}
 use Rattle.register.specs.Sequence.{after, exchanges, seen_by, rule_entry, entries_in}
 use Rattle.register.specs.Sends.{IsSent, CallIsSend, SentReadsBack}
@@ -65,7 +65,7 @@ module _ (R : Rule State Event ℕ) where
         i : ℕ
         i = (heading_of m).account
 
-        by : {sent : Sent} → Sending R r m sent → refusal_in sent.answer ≡ none → entries_in (bytes_of_entries i (list_of sent.entries)) ≡ map rule_entry (list_of sent.entries)
+        by : {sent : Sent} → Sending R r m sent → refusal_in sent.answer ≡ none → entries_in (bytes_of_entries i (list_of (steps.entries_in sent.answer))) ≡ map rule_entry (list_of (steps.entries_in sent.answer))
         by (refused n high) h = let z : ◌≡◌ {A = ℕ} 0 1 = cc in absurd (omega arith)
         by (taken free) h =
             let xs = (taking R r m).entries in

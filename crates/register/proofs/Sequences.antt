@@ -6,6 +6,9 @@ use mathlib.Core.List.{List, [], ◌∷◌, ◌++◌, append-nil, append_assoc}
 use mathlib.Core.Option.{none, some}
 use native.Mathlib.Omega.{arith}
 use borrow.Author.Tests.{eq-eqb, ne_eqb}
+use Rattle.refusal.specs.Numbers.{number_of}
+use Rattle.std.specs.Prelude.{Result, Ok, Err}
+use Rattle.refusal.specs.declared.Refusal.{Refusal}
 use Rattle.rule.specs.Rule.{Rule}
 use Rattle.rule.specs.Call as Rule-Call
 use Rattle.rule.specs.History.{Seen}
@@ -13,15 +16,11 @@ use Rattle.events.specs.declared.Event.{Event}
 use Rattle.events.specs.declared.State.{State}
 use Rattle.filing.specs.declared.Filed.{Filed}
 use Rattle.message.specs.declared.Message.{Message}
-use Rattle.message.specs.declared.Reading.{Reading}
-use Rattle.message.specs.declared.Reading.TheVariants as Reading'
 use Rattle.message.specs.Bytes.{heading_of}
 use Rattle.message.specs.Answers.{read_of}
 use Rattle.register.specs.declared.Register.{Register}
-use Rattle.register.specs.declared.Reply.{Reply}
-use Rattle.register.specs.declared.Reply.TheVariants.{Refused, Taken}
 use Rattle.register.specs.Register.{rule_message}
-use Rattle.register.specs.Call.{refusal_of, called_by}
+use Rattle.register.specs.Call.{refusal_of, called_by, Reply}
 use Rattle.register.specs.Refusals.{account_in}
 use Rattle.register.specs.Sequence.{Input, Exchange, after, exchanges, answer_in, seen_of, seen_by, entries_in, written_in, OneMoreCall, Sight}
 use Rattle.register.proofs.ReadAs.{account-read}
@@ -54,13 +53,13 @@ seen-append i (x ∷ xs) ys =
 
 -- the answer to an account, by what is said of it
 answer-refused : (x : Reply) (buffer : List ℕ) (n : ℕ) → refusal_of x ≡ some n → answer_in x buffer ≡ Rule-Call.refused n
-answer-refused (Refused k) buffer n h = ap Rule-Call.refused (let z : k ≡ n = cc in z)
-answer-refused (Taken consumed written) buffer n h = let z : ◌≡◌ {A = ℕ} 0 1 = cc in absurd (omega arith)
+answer-refused (Err k) buffer n h = ap Rule-Call.refused (let z : number_of k ≡ n = cc in z)
+answer-refused (Ok taken) buffer n h = let z : ◌≡◌ {A = ℕ} 0 1 = cc in absurd (omega arith)
 
 answer-taken : (x : Reply) (message buffer : List ℕ) → refusal_of x ≡ none
     → answer_in x buffer ≡ Rule-Call.taken (entries_in (written_in (record { message = message; reply = x; buffer = buffer })))
-answer-taken (Refused k) message buffer h = let z : ◌≡◌ {A = ℕ} 0 1 = cc in absurd (omega arith)
-answer-taken (Taken consumed written) message buffer h = refl
+answer-taken (Err k) message buffer h = let z : ◌≡◌ {A = ℕ} 0 1 = cc in absurd (omega arith)
+answer-taken (Ok taken) message buffer h = refl
 
 module _ (i : ℕ) (xs : List Exchange) (x : Exchange) where
   -- one exchange more, by what the account sees of it
@@ -72,12 +71,12 @@ module _ (i : ℕ) (xs : List Exchange) (x : Exchange) where
   not_seen : seen_of i x.reply x.buffer (read_of x.message) ≡ [] → seen_by i (xs ++ (x ∷ [])) ≡ seen_by i xs
   not_seen h = one_more [] h ∙ append-nil (seen_by i xs)
 
-  another-named : (account_in x.message ≡ i → ⊥) → (y : Reading) → read_of x.message ≡ y → seen_of i x.reply x.buffer y ≡ []
-  another-named other (Reading'.Refused n) q = refl
-  another-named other (Reading'.Message m consumed) q =
+  another-named : (account_in x.message ≡ i → ⊥) → (y : Result (Message × ℕ) Refusal) → read_of x.message ≡ y → seen_of i x.reply x.buffer y ≡ []
+  another-named other (Err n) q = refl
+  another-named other (Ok (m, consumed)) q =
       rw (ne_eqb (heading_of m).account i (λ e. other (sym (account-read x.message m consumed q) ∙ e)))
 
-  seen-named : (m : Message) (consumed : ℕ) → read_of x.message ≡ Reading'.Message m consumed → account_in x.message ≡ i
+  seen-named : (m : Message) (consumed : ℕ) → read_of x.message ≡ Ok (m, consumed) → account_in x.message ≡ i
       → seen_of i x.reply x.buffer (read_of x.message) ≡ record { message = rule_message m; answer = answer_in x.reply x.buffer } ∷ []
   seen-named m consumed q e = rw (q, eq-eqb (heading_of m).account i (account-read x.message m consumed q ∙ e))
 

@@ -10,10 +10,13 @@ use native.Mathlib.Omega.{arith}
 use lib.Dec.{eqb, ltb}
 use lib.ListN.{length, get_or}
 use borrow.Author.Tests.{ltb-false}
+use Rattle.refusal.specs.Numbers.{number_of}
+use Rattle.message.specs.declared.Message.{Message}
+use Rattle.std.specs.Prelude.{Result, Ok, Err}
+use Rattle.refusal.specs.declared.Refusal.{Refusal}
+use Rattle.refusal.specs.declared.Refusal.TheVariants.{Torn, UnknownAccount}
 use Rattle.layout.specs.Number.{number_at}
 use Rattle.layout.specs.Fields.{KindRow, row_of_kind, whole_of, widths_of, numbers_at, last_account}
-use Rattle.message.specs.declared.Reading.{Reading}
-use Rattle.message.specs.declared.Reading.TheVariants as Reading'
 use Rattle.message.specs.Bytes.{messages, message_of}
 use Rattle.message.specs.Answers.{read_numbers, read_kind, read_of}
 use Rattle.register.specs.Whole.{Whole}
@@ -30,9 +33,9 @@ abbrev pub Refusable : (bytes : List ℕ) (n : ℕ) → Type 0
 Refusable bytes n = ((n ≡ 1) ⊎ (n ≡ 2)) ⊎ ((3 ≤ n) × Stands bytes)
 
 -- and what was read
-abbrev pub ReadingTells : (bytes : List ℕ) → Reading → Type 0
-ReadingTells bytes (Reading'.Refused n) = Refusable bytes n
-ReadingTells bytes (Reading'.Message m consumed) = (consumed ≡ length_at bytes) × Stands bytes
+abbrev pub ReadingTells : (bytes : List ℕ) → Result (Message × ℕ) Refusal → Type 0
+ReadingTells bytes (Err n) = Refusable bytes (number_of n)
+ReadingTells bytes (Ok (m, consumed)) = (consumed ≡ length_at bytes) × Stands bytes
 
 kind-tells : (bytes : List ℕ) (found : Option KindRow) → row_of_kind messages (number_at bytes 0 1) ≡ found → ReadingTells bytes (read_kind found bytes)
 kind-tells bytes none e = inl (inr refl)
@@ -44,11 +47,11 @@ kind-tells bytes (some r) e = short (ltb (length bytes) r.whole) refl
     numbers : List ℕ
     numbers = numbers_at (widths_of (some r)) bytes 0
 
-    account : Stands bytes → (b : Bool) → ReadingTells bytes (cond b (Reading'.Refused 3) (Reading'.Message (message_of numbers) r.whole))
+    account : Stands bytes → (b : Bool) → ReadingTells bytes (cond b (Err UnknownAccount) (Ok (message_of numbers, r.whole)))
     account w true = inr (omega arith, w)
     account w false = (sym same, w)
 
-    short : (b : Bool) → ltb (length bytes) r.whole ≡ b → ReadingTells bytes (cond b (Reading'.Refused 1) (read_numbers r.whole numbers))
+    short : (b : Bool) → ltb (length bytes) r.whole ≡ b → ReadingTells bytes (cond b (Err Torn) (read_numbers r.whole numbers))
     short true q = inl (inl refl)
     short false q =
         account
@@ -59,6 +62,6 @@ pub reading-tells : (bytes : List ℕ) → ReadingTells bytes (read_of bytes)
 unfolding read_of
 reading-tells bytes = go (eqb (length bytes) 0)
   where
-    go : (b : Bool) → ReadingTells bytes (cond b (Reading'.Refused 1) (read_kind (row_of_kind messages (number_at bytes 0 1)) bytes))
+    go : (b : Bool) → ReadingTells bytes (cond b (Err Torn) (read_kind (row_of_kind messages (number_at bytes 0 1)) bytes))
     go true = inl (inl refl)
     go false = kind-tells bytes (row_of_kind messages (number_at bytes 0 1)) refl

@@ -1,7 +1,7 @@
 -- What a message that is sent, and a call, leave: each by what it comes to. That a refusal's number is from the list is read off the list of tests.
 -- Assumes nothing.
 use Prim.Native.Nat.{ℕ, ◌≤◌}
-use mathlib.Core.Path.{◌≡◌, refl, sym, ◌∙◌, ap, ap₂}
+use mathlib.Core.Path.{◌≡◌, refl, sym, ◌∙◌, ap}
 use mathlib.Core.Bool.{Bool, true, false, cond, ◌&&◌}
 use mathlib.Core.List.{List, [], ◌∷◌, map}
 use mathlib.Core.Option.{none, some}
@@ -10,6 +10,10 @@ use lib.Dec.{leb}
 use lib.ListN.{length, drop, length-append, length-drop, length-set}
 use lib.Seq.{drop-append_seam, get_or-set_other}
 use borrow.Author.Tests.{leb-true}
+use Rattle.refusal.proofs.Literal.{literal-holds}
+use Rattle.register.proofs.Apart.{same-refusal}
+use Rattle.refusal.specs.Numbers.{number_of, numbered}
+use Rattle.std.specs.Prelude.{Ok, Err}
 use Rattle.rule.specs.Lists.{every}
 use Rattle.rule.specs.Rule.{Rule}
 use Rattle.rule.specs.Tests.{Test, first_of}
@@ -18,16 +22,15 @@ use Rattle.events.specs.declared.Event.{Event}
 use Rattle.events.specs.declared.State.{State}
 use Rattle.filing.specs.Entries.{entry_of, entries_of}
 use Rattle.account.specs.Places.{account_of}
+use Rattle.account.specs.Steps as steps
 use Rattle.account.specs.Steps.{refusal_in}
 use Rattle.message.specs.declared.Message.{Message}
 use Rattle.message.specs.Bytes.{heading_of}
 use Rattle.entry.specs.Bytes.{bytes_of_entries}
 use Rattle.entry.specs.Answers.{longest_call}
 use Rattle.register.specs.declared.Register.{Register}
-use Rattle.register.specs.declared.Sent.{Sent}
-use Rattle.register.specs.declared.Reply.TheVariants.{Refused, Taken}
-use Rattle.register.specs.Register.{nowhere, account_at}
-use Rattle.register.specs.Call.{Result, refusal_of, consumed_of, written_of, refused_with, called_by}
+use Rattle.register.specs.Register.{nowhere, account_at, Sent}
+use Rattle.register.specs.Call.{Called, refusal_of, consumed_of, written_of, refused_with, called_by}
 use Rattle.register.specs.Refusals.{account_in, length_by, call_tests}
 use Rattle.register.specs.Unchanged.{SendLeaves, Refusal, Taking, RepliesApart}
 use Rattle.register.proofs.Suits.{Suits}
@@ -55,7 +58,7 @@ not_none n h = let z : ◌≡◌ {A = ℕ} 0 1 = cc in omega arith
 module _ (R : Rule State Event ℕ) (r : Register) (m : Message) where
   -- what is sent, by what it comes to
   record Parts (sent : Sent) : Type 0 where
-    same : (n : ℕ) → refusal_in sent.answer ≡ some n → (sent.register ≡ r) × (sent.entries ≡ entries_of [])
+    same : (n : ℕ) → refusal_in sent.answer ≡ some n → (sent.register ≡ r) × (steps.entries_in sent.answer ≡ entries_of [])
     count : length sent.register.accounts ≡ length r.accounts
     others : (j : ℕ) → (j ≡ (heading_of m).account → ⊥) → account_at sent.register j ≡ account_at r j
 
@@ -75,8 +78,8 @@ module _ (R : Rule State Event ℕ) (r : Register) (m : Message) where
 
 module _ (R : Rule State Event ℕ) (k : Suits R) (r : Register) (bytes buffer : List ℕ) where
   -- a call that is refused is the refusal
-  is-refusal : {x : Result} → Calling R r bytes buffer x → (n : ℕ) → refusal_of x.reply ≡ some n → x ≡ refused_with r buffer n
-  is-refusal (refused j why) n h = let z : j ≡ n = cc in rw z
+  is-refusal : {x : Called} → Calling R r bytes buffer x → (n : ℕ) → refusal_of x.reply ≡ some n → x ≡ refused_with r buffer (numbered n)
+  is-refusal (refused j why) n h = let z : number_of j ≡ n = cc in rw (← z, literal-holds.told j)
   is-refusal (taken m consumed t) n h = absurd (not_none n (sym h))
 
   pub refusal : (n : ℕ) → refusal_of (called_by R r bytes buffer).reply ≡ some n → Refusal R r bytes buffer n
@@ -93,7 +96,7 @@ module _ (R : Rule State Event ℕ) (k : Suits R) (r : Register) (bytes buffer :
       }
 
   -- a call that is taken
-  record Changes (x : Result) : Type 0 where
+  record Changes (x : Called) : Type 0 where
     consumed : consumed_of x.reply ≡ length_by (kind_in bytes)
     whole : length_by (kind_in bytes) ≤ length bytes
     room : written_of x.reply ≤ length buffer
@@ -102,8 +105,8 @@ module _ (R : Rule State Event ℕ) (k : Suits R) (r : Register) (bytes buffer :
     count : length x.register.accounts ≡ length r.accounts
     others : (j : ℕ) → (j ≡ account_in bytes → ⊥) → account_at x.register j ≡ account_at r j
 
-  changes : {x : Result} → Calling R r bytes buffer x → refusal_of x.reply ≡ none → Changes x
-  changes (refused n why) h = absurd (not_none n h)
+  changes : {x : Called} → Calling R r bytes buffer x → refusal_of x.reply ≡ none → Changes x
+  changes (refused n why) h = absurd (not_none (number_of n) h)
   changes (taken m consumed t) h =
       let i = (heading_of m).account in
       let next = account_of (taking R r m).account in
@@ -126,7 +129,7 @@ module _ (R : Rule State Event ℕ) (k : Suits R) (r : Register) (bytes buffer :
       record { consumed = c.consumed; whole = c.whole; room = c.room; size = c.size; rest = c.rest; count = c.count; others = c.others }
 
 pub replies-apart : RepliesApart
-replies-apart (Refused n) (Refused k) h c w = ap Refused (let z : n ≡ k = cc in z)
-replies-apart (Refused n) (Taken consumed written) h c w = let z : ◌≡◌ {A = ℕ} 0 1 = cc in absurd (omega arith)
-replies-apart (Taken consumed written) (Refused k) h c w = let z : ◌≡◌ {A = ℕ} 0 1 = cc in absurd (omega arith)
-replies-apart (Taken consumed written) (Taken consumed' written') h c w = ap₂ Taken c w
+replies-apart (Err n) (Err k) h c w = ap Err (let z : number_of n ≡ number_of k = cc in same-refusal n k z)
+replies-apart (Err n) (Ok done) h c w = let z : ◌≡◌ {A = ℕ} 0 1 = cc in absurd (omega arith)
+replies-apart (Ok done) (Err k) h c w = let z : ◌≡◌ {A = ℕ} 0 1 = cc in absurd (omega arith)
+replies-apart (Ok done) (Ok done') h c w = λ i. Ok (record { consumed = c i; written = w i })

@@ -17,7 +17,7 @@ use Rattle.register.specs.declared.Register.{Register}
 use Rattle.register.specs.declared.runs.Ran.{Ran}
 use Rattle.register.specs.declared.runs.Passed.{Passed}
 use Rattle.register.specs.Register.{fresh_by}
-use Rattle.register.specs.Call.{Result, called_by}
+use Rattle.register.specs.Call.{Called, called_by}
 use Rattle.register.specs.Run.{Run, nothing, ended, length_at, passed_of, one, added, joined, first, run_from, run_by}
 use Rattle.register.proofs.Suits.{Suits}
 use Rattle.register.specs.Helpers.{Countable}
@@ -137,7 +137,7 @@ module _ (R : Rule State Event ℕ) (k : Suits R) where
     turn-whole =
         let rest = drop ran.consumed bytes in
         let free = drop ran.written entries in
-        let called : Result = called_by R r rest free in
+        let called : Called = called_by R r rest free in
         let p : Passed = passed_of called.reply (length_at rest) in
         let most = length bytes - (ran.met + 1) in
         rw (t.comes, t.follows, t.leaves, ← drop-drop p.consumed ran.consumed bytes, ← free_more ran.written p.written entries called.buffer u.room)

@@ -15,7 +15,7 @@ use Rattle.events.specs.declared.State.{State}
 use Rattle.register.specs.declared.Register.{Register}
 use Rattle.register.specs.declared.runs.Passed.{Passed}
 use Rattle.register.specs.Register.{fresh_by}
-use Rattle.register.specs.Call.{Result, called_by}
+use Rattle.register.specs.Call.{Called, called_by}
 use Rattle.register.specs.Run.{Run, ended, length_at, passed_of, joined, first, turn_of, run_from, run_by, EmptyRun, BoundNeverMatters, Kept, EachRunKept}
 use Rattle.register.proofs.Suits.{Suits}
 use Rattle.register.proofs.Moved.{Moved, call-moves}
@@ -28,7 +28,7 @@ module _ (R : Rule State Event ℕ) (k : Suits R) where
 
   -- a turn, with the rest of the run as a parameter
   module _ (r : Register) (bytes buffer : List ℕ) where
-    called : Result
+    called : Called
     called = called_by R r bytes buffer
 
     passed : Passed

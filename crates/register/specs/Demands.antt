@@ -1,9 +1,11 @@
 -- The three demands (docs/REGISTER.md, 13), over byte strings, buffers and the answers of the public calls, from the register that `fresh` returns; and what is promised of a run,
 -- which is what is exported. All of it of the first panel.
 -- Assumes nothing.
-use Rattle.std.specs.Prelude.{ℕ, ◌<◌, ◌≤◌, ◌≡◌, true, List, [], ◌++◌, map, length, drop, set, replicate}
+use Rattle.std.specs.Prelude.{ℕ, ◌<◌, ◌≤◌, ◌≡◌, true, Ok, Err, List, ◌++◌, map, length, drop, set, replicate}
 use Rattle.std.proofs.Math.Option.{Option, none, some}
-use Rattle.rule.specs.Call.{Answer, refused, taken, Called, call}
+use Rattle.refusal.specs.Numbers.{numbered}
+use Rattle.rule.specs.Call.{Answer, refused, taken, call}
+use Rattle.rule.specs.Call as Rule-Call
 use Rattle.rule.specs.Rule.{Weighing}
 use Rattle.rule.specs.Exact.{Numbered, Choices, Exact, Decided}
 use Rattle.rule.specs.Vote.{VoteExactly}
@@ -17,12 +19,10 @@ use Rattle.filing.specs.declared.Slot.{Slot}
 use Rattle.filing.specs.Slots.{RuleSlot}
 use Rattle.filing.specs.Entries.{entry_of, entries_of}
 use Rattle.account.specs.declared.Account.{Account}
-use Rattle.account.specs.declared.Answer.TheVariants as Answer'
 use Rattle.account.specs.Places.{RuleAccount, lists_of, account_of}
 use Rattle.account.specs.Steps.{shown_by}
 use Rattle.account.specs.First.{panel, in_order_of, TableHolds, OutcomesOfTheTable}
 use Rattle.message.specs.declared.Message.{Message}
-use Rattle.message.specs.declared.Reading.TheVariants as Reading'
 use Rattle.message.specs.Bytes.{heading_of}
 use Rattle.message.specs.Answers.{read_of}
 use Rattle.message.specs.Inverse.{ReadsWritten, WritesRead}
@@ -30,9 +30,8 @@ use Rattle.message.specs.Refusals.{ReaderRefuses, WriterRefuses}
 use Rattle.entry.specs.Bytes.{bytes_of_entries}
 use Rattle.entry.specs.Longest.{LongestBy}
 use Rattle.register.specs.declared.Register.{Register}
-use Rattle.register.specs.declared.Sent.{Sent}
-use Rattle.register.specs.Register.{rule_message}
-use Rattle.register.specs.Call.{Result, refusal_of, consumed_of, written_of}
+use Rattle.register.specs.Register.{Sent, rule_message}
+use Rattle.register.specs.Call.{Called, refusal_of, consumed_of, written_of}
 use Rattle.register.specs.First.{fresh_register, sent_of, outlook_in, call_of, after, exchanges}
 use Rattle.register.specs.Sequence.{Input, Exchange, ByteStrings, EachOnlyEntries, OneMoreCall, Sight, SerialPast}
 use Rattle.register.specs.Sends.{CallIsSend, SentReadsBack}
@@ -46,7 +45,7 @@ use Rattle.register.specs.RunCalls.{RunIsItsCalls, RunDemand3}
 use Rattle.register.specs.RunSeconds.{RunSecondsNeverMatter}
 
 -- what a call gives, by what its reply says
-pub record Gives (result : Result) (refusal : Option ℕ) (consumed written : ℕ) (register : Register) (buffer : List ℕ) : Type 0 where
+pub record Gives (result : Called) (refusal : Option ℕ) (consumed written : ℕ) (register : Register) (buffer : List ℕ) : Type 0 where
   pub refusal' : refusal_of result.reply ≡ refusal
   pub consumed' : consumed_of result.reply ≡ consumed
   pub written' : written_of result.reply ≡ written
@@ -54,19 +53,19 @@ pub record Gives (result : Result) (refusal : Option ℕ) (consumed written : �
   pub buffer' : result.buffer ≡ buffer
 
 -- the rule's answer in bytes: a refusal changes nothing; else the account that follows stands in its place, and its entries at the beginning of the buffer
-abbrev pub RuledBy : Register → (buffer : List ℕ) (account consumed : ℕ) → RuleAccount → Answer Filed Event ℕ → Result → Type 0
+abbrev pub RuledBy : Register → (buffer : List ℕ) (account consumed : ℕ) → RuleAccount → Answer Filed Event ℕ → Called → Type 0
 RuledBy r buffer i consumed next (refused n) result = Gives result (some n) 0 0 r buffer
 RuledBy r buffer i consumed next (taken xs) result =
     let bytes = bytes_of_entries i (map entry_of xs) in
     Gives result none consumed (length bytes) (record { accounts = set r.accounts i (account_of next) }) (bytes ++ drop (length bytes) buffer)
 
-abbrev pub Ruled : Register → (buffer : List ℕ) (account consumed : ℕ) → Called Filed State Event ℕ → Result → Type 0
+abbrev pub Ruled : Register → (buffer : List ℕ) (account consumed : ℕ) → Rule-Call.Called Filed State Event ℕ → Called → Type 0
 Ruled r buffer i consumed called result = RuledBy r buffer i consumed called.account called.answer result
 
 -- and as values: a message that is refused changes nothing and brings no entry; else the account that follows stands in its place, and these are the entries
 abbrev pub sent_as_ruled : Register → (account : ℕ) → RuleAccount → Answer Filed Event ℕ → Sent
-sent_as_ruled r i next (refused n) = record { register = r; entries = entries_of []; answer = Answer'.Refused n }
-sent_as_ruled r i next (taken xs) = record { register = record { accounts = set r.accounts i (account_of next) }; entries = entries_of xs; answer = Answer'.Taken }
+sent_as_ruled r i next (refused n) = record { register = r; answer = Err (numbered n) }
+sent_as_ruled r i next (taken xs) = record { register = record { accounts = set r.accounts i (account_of next) }; answer = Ok (entries_of xs) }
 
 -- a new account, and its places
 abbrev pub blank_places : List Slot
@@ -99,7 +98,7 @@ pub record Demand1 : Type 0 where
 -- are those of the rule's call on the account's lists.
 abbrev pub AsTheRule : Type 0
 AsTheRule =
-    (r : Register) (bytes buffer : List ℕ) (m : Message) (consumed : ℕ) → read_of bytes ≡ Reading'.Message m consumed → 323 ≤ length buffer
+    (r : Register) (bytes buffer : List ℕ) (m : Message) (consumed : ℕ) → read_of bytes ≡ Ok (m, consumed) → 323 ≤ length buffer
     → in_order_of (standing_at r (account_in bytes)) ≡ true
     → Ruled r buffer (account_in bytes) consumed (call panel (lists_of (standing_at r (account_in bytes))) (rule_message m)) (call_of r bytes buffer)
 

@@ -10,12 +10,13 @@ use Rattle.filing.specs.declared.Filed.{Filed}
 use Rattle.account.specs.declared.Account.{Account}
 use Rattle.account.specs.Places.{lists_of}
 use Rattle.account.specs.InOrder.{in_order_by}
+use Rattle.account.specs.Steps as steps
+use Rattle.account.specs.Steps.{refusal_in}
 use Rattle.message.specs.declared.Message.{Message}
 use Rattle.message.specs.Bytes.{heading_of}
 use Rattle.entry.specs.Bytes.{list_of}
 use Rattle.register.specs.declared.Register.{Register}
-use Rattle.register.specs.declared.Sent.{Sent}
-use Rattle.register.specs.Register.{rule_message, sent_by}
+use Rattle.register.specs.Register.{Sent, rule_message, sent_by}
 use Rattle.register.specs.Refusals.{standing_at}
 use Rattle.register.specs.Sequence.{rule_entry}
 
@@ -33,8 +34,8 @@ module _ (R : Rule State Event ℕ) (f : Filed → Filed) where
 
   -- what two messages give
   pub record SameSent (x y : Sent) : Type 0 where
-    pub answers : x.answer ≡ y.answer
-    pub entries : map (λ e. entry_through f (rule_entry e)) (list_of x.entries) ≡ map (λ e. entry_through f (rule_entry e)) (list_of y.entries)
+    pub answers : refusal_in x.answer ≡ refusal_in y.answer
+    pub entries : map (λ e. entry_through f (rule_entry e)) (list_of (steps.entries_in x.answer)) ≡ map (λ e. entry_through f (rule_entry e)) (list_of (steps.entries_in y.answer))
     pub registers : SameRegister x.register y.register
 
 abbrev pub FiledNeverMatters : Rule State Event ℕ → Type 0

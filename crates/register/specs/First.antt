@@ -1,13 +1,13 @@
 -- The register of the first panel: the definitions, which are over any rule of the events, applied to it once.
 -- Assumes nothing.
-use Rattle.std.specs.Prelude.{ℕ, List}
+use Rattle.std.specs.Prelude.{ℕ, Result, List}
+use Rattle.refusal.specs.declared.Refusal.{Refusal}
 use Rattle.account.specs.declared.Outlook.{Outlook}
 use Rattle.account.specs.First.{panel}
 use Rattle.message.specs.declared.Message.{Message}
 use Rattle.register.specs.declared.Register.{Register}
-use Rattle.register.specs.declared.Sent.{Sent}
-use Rattle.register.specs.Register.{fresh_by, sent_by, asked_by}
-use Rattle.register.specs.Call.{Result, called_by}
+use Rattle.register.specs.Register.{Sent, fresh_by, sent_by, asked_by}
+use Rattle.register.specs.Call.{Called, called_by}
 use Rattle.register.specs.Sequence as sequence
 use Rattle.register.specs.Sequence.{Input, Exchange}
 use Rattle.register.specs.Run.{Run, run_by, Exported, exported}
@@ -20,10 +20,10 @@ fresh_register = fresh_by panel
 abbrev pub sent_of : Register → Message → Sent
 sent_of r m = sent_by panel r m
 
-abbrev pub outlook_in : Register → (account number : ℕ) → Outlook
+abbrev pub outlook_in : Register → (account number : ℕ) → Result Outlook Refusal
 outlook_in r i n = asked_by panel r i n
 
-abbrev pub call_of : Register → (bytes buffer : List ℕ) → Result
+abbrev pub call_of : Register → (bytes buffer : List ℕ) → Called
 call_of r bytes buffer = called_by panel r bytes buffer
 
 -- the register after a sequence of calls, and what is seen of them

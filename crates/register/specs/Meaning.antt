@@ -13,10 +13,11 @@ use Rattle.filing.specs.declared.Entry.{Entry}
 use Rattle.account.specs.declared.Account.{Account}
 use Rattle.account.specs.Places.{lists_of}
 use Rattle.account.specs.InOrder.{in_order_by}
+use Rattle.account.specs.Steps as steps
+use Rattle.account.specs.Steps.{refusal_in}
 use Rattle.entry.specs.Bytes.{bytes_of_entry}
 use Rattle.register.specs.declared.Register.{Register}
-use Rattle.register.specs.declared.Sent.{Sent}
-use Rattle.register.specs.Register.{nowhere, fresh_by}
+use Rattle.register.specs.Register.{Sent, nowhere, fresh_by}
 use Rattle.register.specs.Call.{written_of}
 use Rattle.register.specs.Sequence.{Input, Exchange, rule_entry, after, exchanges, seen_by, SerialPast}
 use Rattle.register.specs.Run.{Run}
@@ -74,8 +75,8 @@ module _ (R : Rule State Event ℕ) where
         ↔ ((length r.accounts ≡ 16) × (length r'.accounts ≡ 16)
         × ((i : ℕ) → i ≤ 15 → SameAccount R f (get_or r.accounts i nowhere) (get_or r'.accounts i nowhere)))
     pub sent : SameSent R f x y
-        ↔ ((x.answer ≡ y.answer)
-        × (map (λ e. entry_through f (rule_entry e)) (take x.entries.count x.entries.at) ≡ map (λ e. entry_through f (rule_entry e)) (take y.entries.count y.entries.at))
+        ↔ ((refusal_in x.answer ≡ refusal_in y.answer)
+        × (map (λ e. entry_through f (rule_entry e)) (take (steps.entries_in x.answer).count (steps.entries_in x.answer).at) ≡ map (λ e. entry_through f (rule_entry e)) (take (steps.entries_in y.answer).count (steps.entries_in y.answer).at))
         × SameRegister R f x.register y.register)
 
   -- the past of an account is that of its lists, by the exchanges that it saw

@@ -1,8 +1,10 @@
 -- Each way that a call, a message sent and the outcome question can take, with all that it gives, on any register and any buffer; and the words in which refusals, sequences and runs
 -- are told, said a second time (docs/REGISTER.md, 7, 10.1 and 11).
 -- Assumes nothing.
-use Rattle.std.specs.Prelude.{ℕ, suc, ◌+◌, ◌*◌, ◌≤◌, ◌<◌, ◌≡◌, ◌↔◌, true, false, not, ◌&&◌, List, [], ◌∷◌, ◌++◌, map, eqb, length, take, drop, set, get_or, replicate}
+use Rattle.std.specs.Prelude.{ℕ, suc, ◌+◌, ◌*◌, ◌≤◌, ◌<◌, ◌≡◌, ◌↔◌, true, false, not, ◌&&◌, Some, None, Ok, Err, List, [], ◌∷◌, ◌++◌, map, eqb, length, take, drop, set, get_or, replicate}
 use Rattle.std.proofs.Math.Option.{none, some}
+use Rattle.refusal.specs.declared.Refusal.{Refusal}
+use Rattle.refusal.specs.Numbers.{number_of, numbered}
 use Rattle.rule.specs.Rule as rule
 use Rattle.rule.specs.Call as Rule-Call
 use Rattle.rule.specs.Lists.{some_of, keep}
@@ -11,7 +13,6 @@ use Rattle.events.specs.declared.Event.TheVariants.{Open}
 use Rattle.events.specs.declared.Life.TheVariants.{New}
 use Rattle.events.specs.declared.State.{State}
 use Rattle.filing.specs.declared.Decision.TheVariants.{Undecided}
-use Rattle.filing.specs.declared.Entry.{Entry}
 use Rattle.filing.specs.declared.Filed.{Filed}
 use Rattle.filing.specs.declared.Slot.{Slot}
 use Rattle.filing.specs.declared.Verdict.TheVariants.{Accepted, Rejected, Held}
@@ -19,20 +20,16 @@ use Rattle.filing.specs.declared.Told.TheVariants.{Voted, Noted, Applied, Droppe
 use Rattle.filing.specs.Slots.{is_undecided}
 use Rattle.filing.specs.Entries.{RuleEntry, entry_of, entries_of}
 use Rattle.account.specs.declared.Account.{Account}
-use Rattle.account.specs.declared.Answer.TheVariants as Answer'
-use Rattle.account.specs.declared.Outlook.TheVariants as Outlook'
 use Rattle.account.specs.Places.{lists_of, account_of}
 use Rattle.account.specs.InOrder.{in_order_by}
 use Rattle.account.specs.Steps.{outlook_by}
 use Rattle.message.specs.declared.Message.{Message}
-use Rattle.message.specs.declared.Reading.TheVariants as Reading'
 use Rattle.message.specs.Bytes.{heading_of}
 use Rattle.message.specs.Answers.{read_of}
-use Rattle.entry.specs.declared.EntryReading.TheVariants.{Found, Nothing}
+use Rattle.entry.specs.declared.Found.{Found}
 use Rattle.entry.specs.Answers as entry
 use Rattle.entry.specs.Bytes.{bytes_of_entries}
 use Rattle.register.specs.declared.Register.{Register}
-use Rattle.register.specs.declared.Reply.TheVariants.{Refused, Taken}
 use Rattle.register.specs.Register.{nowhere, account_at, with_account, rule_message, sent_by, asked_by}
 use Rattle.register.specs.Call.{called_by}
 use Rattle.register.specs.Refusals.{transaction_in, account_in, length_by, standing_at, progress_in, held_in, is_in_progress, is_held, is_committed, undecided_in, answered_as}
@@ -43,49 +40,48 @@ use Rattle.register.specs.First.{fresh_register}
 module _ (R : rule.Rule State Event ℕ) where
   -- a call: the reader's refusal, whatever register and buffer are; 4 with fewer than 323 bytes, whatever the register is; 5; and then the rule's answer
   pub record CallPlain (r : Register) (bytes buffer : List ℕ) : Type 0 where
-    pub unread : (n : ℕ) → read_of bytes ≡ Reading'.Refused n → called_by R r bytes buffer ≡ record { reply = Refused n; register = r; buffer = buffer }
-    pub roomless : (m : Message) (consumed : ℕ) → read_of bytes ≡ Reading'.Message m consumed → length buffer < 323
-        → called_by R r bytes buffer ≡ record { reply = Refused 4; register = r; buffer = buffer }
-    pub out_of_order : (m : Message) (consumed : ℕ) → read_of bytes ≡ Reading'.Message m consumed → 323 ≤ length buffer
+    pub unread : (refusal : Refusal) → read_of bytes ≡ Err refusal → called_by R r bytes buffer ≡ record { reply = Err refusal; register = r; buffer = buffer }
+    pub roomless : (m : Message) (consumed : ℕ) → read_of bytes ≡ Ok (m, consumed) → length buffer < 323
+        → called_by R r bytes buffer ≡ record { reply = Err (numbered 4); register = r; buffer = buffer }
+    pub out_of_order : (m : Message) (consumed : ℕ) → read_of bytes ≡ Ok (m, consumed) → 323 ≤ length buffer
         → in_order_by R (get_or r.accounts (heading_of m).account nowhere) ≡ false
-        → called_by R r bytes buffer ≡ record { reply = Refused 5; register = r; buffer = buffer }
-    pub refused : (m : Message) (consumed n : ℕ) → read_of bytes ≡ Reading'.Message m consumed → 323 ≤ length buffer
+        → called_by R r bytes buffer ≡ record { reply = Err (numbered 5); register = r; buffer = buffer }
+    pub refused : (m : Message) (consumed n : ℕ) → read_of bytes ≡ Ok (m, consumed) → 323 ≤ length buffer
         → in_order_by R (get_or r.accounts (heading_of m).account nowhere) ≡ true
         → (Rule-Call.call R (lists_of (get_or r.accounts (heading_of m).account nowhere)) (rule_message m)).answer ≡ Rule-Call.refused n
-        → called_by R r bytes buffer ≡ record { reply = Refused n; register = r; buffer = buffer }
-    pub taken : (m : Message) (consumed : ℕ) (xs : List RuleEntry) → read_of bytes ≡ Reading'.Message m consumed → 323 ≤ length buffer
+        → called_by R r bytes buffer ≡ record { reply = Err (numbered n); register = r; buffer = buffer }
+    pub taken : (m : Message) (consumed : ℕ) (xs : List RuleEntry) → read_of bytes ≡ Ok (m, consumed) → 323 ≤ length buffer
         → let i = (heading_of m).account in
         let called = Rule-Call.call R (lists_of (get_or r.accounts i nowhere)) (rule_message m) in
         let entries = bytes_of_entries i (map entry_of xs) in
         in_order_by R (get_or r.accounts i nowhere) ≡ true → called.answer ≡ Rule-Call.taken xs
         → called_by R r bytes buffer
         ≡ record {
-          reply = Taken consumed (length entries);
+          reply = Ok (record { consumed = consumed; written = length entries });
           register = record { accounts = set r.accounts i (account_of called.account) };
           buffer = entries ++ drop (length entries) buffer;
         }
 
   -- a message sent: 3, 5, and then the rule's answer
   pub record SendPlain (r : Register) (m : Message) : Type 0 where
-    pub elsewhere : 15 < (heading_of m).account → sent_by R r m ≡ record { register = r; entries = entries_of []; answer = Answer'.Refused 3 }
+    pub elsewhere : 15 < (heading_of m).account → sent_by R r m ≡ record { register = r; answer = Err (numbered 3) }
     pub out_of_order : (heading_of m).account ≤ 15 → in_order_by R (get_or r.accounts (heading_of m).account nowhere) ≡ false
-        → sent_by R r m ≡ record { register = r; entries = entries_of []; answer = Answer'.Refused 5 }
+        → sent_by R r m ≡ record { register = r; answer = Err (numbered 5) }
     pub refused : (n : ℕ) → (heading_of m).account ≤ 15 → in_order_by R (get_or r.accounts (heading_of m).account nowhere) ≡ true
         → (Rule-Call.call R (lists_of (get_or r.accounts (heading_of m).account nowhere)) (rule_message m)).answer ≡ Rule-Call.refused n
-        → sent_by R r m ≡ record { register = r; entries = entries_of []; answer = Answer'.Refused n }
+        → sent_by R r m ≡ record { register = r; answer = Err (numbered n) }
     pub taken : (xs : List RuleEntry) → (heading_of m).account ≤ 15 → in_order_by R (get_or r.accounts (heading_of m).account nowhere) ≡ true
         → let called = Rule-Call.call R (lists_of (get_or r.accounts (heading_of m).account nowhere)) (rule_message m) in
         called.answer ≡ Rule-Call.taken xs
         → sent_by R r m
         ≡ record {
           register = record { accounts = set r.accounts (heading_of m).account (account_of called.account) };
-          entries = entries_of xs;
-          answer = Answer'.Taken;
+          answer = Ok (entries_of xs);
         }
 
   -- the outcome question: 3, or what the account of that number answers
   pub record AskedPlain (r : Register) (i n : ℕ) : Type 0 where
-    pub elsewhere : 15 < i → asked_by R r i n ≡ Outlook'.Refused 3
+    pub elsewhere : 15 < i → asked_by R r i n ≡ Err (numbered 3)
     pub asked : i ≤ 15 → asked_by R r i n ≡ outlook_by R (get_or r.accounts i nowhere) n
 
 -- the account of a number is the one behind that many others, and another takes its place alone
@@ -145,19 +141,19 @@ pub record EntryPlain (t n k : ℕ) (g : Filed) (e : Event) : Type 0 where
 pub record EntriesPlain (most : ℕ) (bytes : List ℕ) (x : Exchange) : Type 0 where
   pub none' : entries_in [] ≡ []
   pub whole : entries_in bytes ≡ entries_from (length bytes) bytes
-  pub found : (e : Entry) (kind account whole : ℕ) → entry.read_of bytes ≡ Found e kind account whole → entries_from (suc most) bytes ≡ rule_entry e ∷ entries_from most (drop whole bytes)
-  pub ended : entry.read_of bytes ≡ Nothing → entries_from (suc most) bytes ≡ []
-  pub refused : (n : ℕ) → answer_in (Refused n) bytes ≡ Rule-Call.refused n
-  pub taken : (consumed written : ℕ) → answer_in (Taken consumed written) bytes ≡ Rule-Call.taken (entries_in (take written bytes))
-  pub written_of_taken : (consumed written : ℕ) → x.reply ≡ Taken consumed written → written_in x ≡ take written x.buffer
-  pub written_of_refused : (n : ℕ) → x.reply ≡ Refused n → written_in x ≡ []
+  pub found : (read : Found) (whole : ℕ) → entry.read_of bytes ≡ Some (read, whole) → entries_from (suc most) bytes ≡ rule_entry read.entry ∷ entries_from most (drop whole bytes)
+  pub ended : entry.read_of bytes ≡ None → entries_from (suc most) bytes ≡ []
+  pub refused : (refusal : Refusal) → answer_in (Err refusal) bytes ≡ Rule-Call.refused (number_of refusal)
+  pub taken : (consumed written : ℕ) → answer_in (Ok (record { consumed = consumed; written = written })) bytes ≡ Rule-Call.taken (entries_in (take written bytes))
+  pub written_of_taken : (consumed written : ℕ) → x.reply ≡ Ok (record { consumed = consumed; written = written }) → written_in x ≡ take written x.buffer
+  pub written_of_refused : (refusal : Refusal) → x.reply ≡ Err refusal → written_in x ≡ []
 
 -- byte strings and the entries of exchanges, one after the other; and of each exchange that is taken every byte that was written is an entry's
 pub record StringsPlain (x : Input) (xs : List Input) (y : Exchange) (ys : List Exchange) : Type 0 where
   pub strings : ByteStrings (x ∷ xs) ↔ (((i : ℕ) → get_or x.message i 0 < 256) × ByteStrings xs)
   pub no_strings : ByteStrings []
   pub each : EachOnlyEntries (y ∷ ys) ↔ (OnlyEntries y × EachOnlyEntries ys)
-  pub only : (consumed written : ℕ) → y.reply ≡ Taken consumed written
+  pub only : (consumed written : ℕ) → y.reply ≡ Ok (record { consumed = consumed; written = written })
       → OnlyEntries y → take written y.buffer ≡ bytes_of_entries (account_in y.message) (map entry_of (entries_in (take written y.buffer)))
 
 pub record PlainHolds : Type 0 where

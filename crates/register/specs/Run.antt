@@ -1,7 +1,8 @@
 -- A run of messages through a fresh register (docs/REGISTER.md, 11.5): what is met and refused, how far the messages and the entries go, and the whole entry buffer.
 -- Assumes nothing.
-use Rattle.std.specs.Prelude.{ℕ, zero, suc, ◌+◌, ◌≤◌, ◌≡◌, true, false, cond, List, [], ◌∷◌, ◌++◌, eqb, leb, length, take, drop}
+use Rattle.std.specs.Prelude.{ℕ, zero, suc, ◌+◌, ◌≤◌, ◌≡◌, true, false, cond, Ok, Err, List, [], ◌∷◌, ◌++◌, eqb, leb, length, take, drop}
 use Rattle.std.proofs.lemmas.List.Edits.{sets}
+use Rattle.refusal.specs.Numbers.{number_of}
 use Rattle.rule.specs.Rule.{Rule}
 use Rattle.events.specs.declared.Event.{Event}
 use Rattle.events.specs.declared.State.{State}
@@ -9,12 +10,10 @@ use Rattle.layout.specs.Number.{number_at}
 use Rattle.layout.specs.Fields.{row_of_kind, whole_of}
 use Rattle.message.specs.Bytes.{messages}
 use Rattle.register.specs.declared.Register.{Register}
-use Rattle.register.specs.declared.Reply.{Reply}
-use Rattle.register.specs.declared.Reply.TheVariants.{Refused, Taken}
 use Rattle.register.specs.declared.runs.Ran.{Ran}
 use Rattle.register.specs.declared.runs.Passed.{Passed}
 use Rattle.register.specs.Register.{fresh_by}
-use Rattle.register.specs.Call.{called_by}
+use Rattle.register.specs.Call.{Reply, called_by}
 
 -- what a run gives: the four numbers, and the entry buffer, every byte of it
 pub record Run : Type 0 where
@@ -34,14 +33,14 @@ length_at bytes = whole_of (row_of_kind messages (number_at bytes 0 1))
 
 -- the number of a refusal; 0 says that there is none
 abbrev pub reply_number : Reply → ℕ
-reply_number (Refused n) = n
-reply_number (Taken consumed written) = 0
+reply_number (Err refusal) = number_of refusal
+reply_number (Ok taken) = 0
 
 -- what a message comes to, by its reply and its whole length: the run stops at refusals 1 and 2, and passes over a message that got another
 abbrev pub passed_of : Reply → (whole : ℕ) → Passed
-passed_of (Taken consumed written) whole = record { refused = 0; consumed = consumed; written = written; stops = false }
-passed_of (Refused n) whole =
-    cond (leb n 2) (record { refused = 1; consumed = 0; written = 0; stops = true }) (record { refused = 1; consumed = whole; written = 0; stops = false })
+passed_of (Ok taken) whole = record { refused = 0; consumed = taken.consumed; written = taken.written; stops = false }
+passed_of (Err refusal) whole =
+    cond (leb (number_of refusal) 2) (record { refused = 1; consumed = 0; written = 0; stops = true }) (record { refused = 1; consumed = whole; written = 0; stops = false })
 
 -- the counts of one message: it was met, whether it is refused or not
 abbrev pub one : Passed → Ran

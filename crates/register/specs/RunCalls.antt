@@ -1,15 +1,16 @@
 -- A run is its calls (docs/REGISTER.md, 11.5): which calls of a fresh register it makes, where it stops, and what its numbers and its buffer are by what is seen of those
 -- calls. Nothing here goes by how a run is defined.
 -- Assumes nothing.
-use Rattle.std.specs.Prelude.{ℕ, ◌+◌, ◌≤◌, ◌<◌, ◌≡◌, ◌⊎◌, List, [], ◌∷◌, ◌++◌, length, take, drop}
+use Rattle.std.specs.Prelude.{ℕ, ◌+◌, ◌≤◌, ◌<◌, ◌≡◌, ◌⊎◌, Ok, Err, List, [], ◌∷◌, ◌++◌, length, take, drop}
+use Rattle.refusal.specs.declared.Refusal.{Refusal}
+use Rattle.refusal.specs.Numbers.{number_of}
 use Rattle.rule.specs.Rule.{Rule}
 use Rattle.events.specs.declared.Event.{Event}
 use Rattle.events.specs.declared.State.{State}
 use Rattle.layout.specs.Number.{AreBytes}
 use Rattle.register.specs.declared.Register.{Register}
-use Rattle.register.specs.declared.Reply.{Reply}
-use Rattle.register.specs.declared.Reply.TheVariants.{Refused, Taken}
 use Rattle.register.specs.Register.{fresh_by}
+use Rattle.register.specs.Call.{Reply}
 use Rattle.register.specs.Sequence.{Input, Exchange, exchanges, SerialPast}
 use Rattle.register.specs.Whole.{Whole}
 use Rattle.register.specs.Run.{Run, run_by, numbers_of}
@@ -19,21 +20,21 @@ pub data Calls : (bytes buffer : List ℕ) → List Input → List Exchange → 
   -- no byte is left
   ended : {buffer : List ℕ} → Calls [] buffer [] [] 0
   -- a message that is refused with 1 or 2 is the last
-  stopped : {bytes buffer : List ℕ} {x : Exchange} (n : ℕ) → 0 < length bytes → x.reply ≡ Refused n → (n ≡ 1) ⊎ (n ≡ 2)
+  stopped : {bytes buffer : List ℕ} {x : Exchange} (refusal : Refusal) → 0 < length bytes → x.reply ≡ Err refusal → (number_of refusal ≡ 1) ⊎ (number_of refusal ≡ 2)
       → Calls bytes buffer (record { message = bytes; buffer = buffer } ∷ []) (x ∷ []) 0
   -- after any other refusal the message is skipped by its length, and the buffer is the same
-  skipped : {bytes buffer : List ℕ} {x : Exchange} {inputs : List Input} {seen : List Exchange} {passed : ℕ} (n whole : ℕ)
-      → x.reply ≡ Refused n → 3 ≤ n → Whole bytes whole → Calls (drop whole bytes) buffer inputs seen passed
+  skipped : {bytes buffer : List ℕ} {x : Exchange} {inputs : List Input} {seen : List Exchange} {passed : ℕ} (refusal : Refusal) (whole : ℕ)
+      → x.reply ≡ Err refusal → 3 ≤ number_of refusal → Whole bytes whole → Calls (drop whole bytes) buffer inputs seen passed
       → Calls bytes buffer (record { message = bytes; buffer = buffer } ∷ inputs) (x ∷ seen) (whole + passed)
   -- the next message starts behind this one, and its entries behind these, in the buffer that the call left
   taken : {bytes buffer : List ℕ} {x : Exchange} {inputs : List Input} {seen : List Exchange} {passed : ℕ} (whole written : ℕ)
-      → x.reply ≡ Taken whole written → Whole bytes whole → Calls (drop whole bytes) (drop written x.buffer) inputs seen passed
+      → x.reply ≡ Ok (record { consumed = whole; written = written }) → Whole bytes whole → Calls (drop whole bytes) (drop written x.buffer) inputs seen passed
       → Calls bytes buffer (record { message = bytes; buffer = buffer } ∷ inputs) (x ∷ seen) (whole + passed)
 
 -- how many of the calls seen were refused
 abbrev pub refusals : Reply → ℕ
-refusals (Refused n) = 1
-refusals (Taken consumed written) = 0
+refusals (Err refusal) = 1
+refusals (Ok done) = 0
 
 abbrev pub refused_among : List Exchange → ℕ
 refused_among [] = 0
@@ -41,8 +42,8 @@ refused_among (x ∷ xs) = refusals x.reply + refused_among xs
 
 -- the entries of the calls seen, one after the other
 abbrev pub written_part : Reply → (buffer : List ℕ) → List ℕ
-written_part (Refused n) buffer = []
-written_part (Taken consumed written) buffer = take written buffer
+written_part (Err refusal) buffer = []
+written_part (Ok done) buffer = take done.written buffer
 
 abbrev pub entries_among : List Exchange → List ℕ
 entries_among [] = []

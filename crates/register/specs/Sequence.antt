@@ -1,7 +1,9 @@
 -- Sequences of calls, and what can be seen of them in bytes: the messages sent, the answers, and the entries in the buffers (docs/REGISTER.md, 13.3).
 -- Assumes nothing.
-use Rattle.std.specs.Prelude.{ℕ, zero, suc, ◌≡◌, cond, List, [], ◌∷◌, ◌++◌, map, eqb, length, take, drop}
+use Rattle.std.specs.Prelude.{ℕ, zero, suc, ◌≡◌, cond, Option, Some, None, Result, Ok, Err, List, [], ◌∷◌, ◌++◌, map, eqb, length, take, drop}
 use Rattle.std.proofs.Math.Option.{none, some}
+use Rattle.refusal.specs.declared.Refusal.{Refusal}
+use Rattle.refusal.specs.Numbers.{number_of}
 use Rattle.rule.specs.Rule as rule
 use Rattle.rule.specs.Call as Rule-Call
 use Rattle.rule.specs.History as rule-history
@@ -16,19 +18,14 @@ use Rattle.filing.specs.Entries.{RuleEntry, weighing_of, entry_of}
 use Rattle.account.specs.Places.{lists_of}
 use Rattle.layout.specs.Number.{AreBytes}
 use Rattle.message.specs.declared.Message.{Message}
-use Rattle.message.specs.declared.Reading.{Reading}
-use Rattle.message.specs.declared.Reading.TheVariants as Reading'
 use Rattle.message.specs.Bytes.{heading_of}
 use Rattle.message.specs.Answers as message
-use Rattle.entry.specs.declared.EntryReading.{EntryReading}
-use Rattle.entry.specs.declared.EntryReading.TheVariants.{Found, Nothing}
+use Rattle.entry.specs.declared.Found.{Found}
 use Rattle.entry.specs.Bytes.{bytes_of_entries}
 use Rattle.entry.specs.Answers as entry
 use Rattle.register.specs.declared.Register.{Register}
-use Rattle.register.specs.declared.Reply.{Reply}
-use Rattle.register.specs.declared.Reply.TheVariants.{Refused, Taken}
 use Rattle.register.specs.Register.{rule_message, fresh_by}
-use Rattle.register.specs.Call.{refusal_of, written_of, called_by}
+use Rattle.register.specs.Call.{Reply, refusal_of, written_of, called_by}
 use Rattle.register.specs.Refusals.{account_in, standing_at}
 
 -- what is handed to a call: the message bytes and the entry buffer
@@ -71,9 +68,9 @@ abbrev pub rule_entry : Entry → RuleEntry
 rule_entry e = told_as e.transaction e.filed e.told
 
 -- an entry that was read, and those of the bytes behind it; where there is none, the entries have ended
-abbrev pub read_on : (bytes : List ℕ) → (List ℕ → List RuleEntry) → EntryReading → List RuleEntry
-read_on bytes rest (Found e kind account whole) = rule_entry e ∷ rest (drop whole bytes)
-read_on bytes rest Nothing = []
+abbrev pub read_on : (bytes : List ℕ) → (List ℕ → List RuleEntry) → Option (Found × ℕ) → List RuleEntry
+read_on bytes rest (Some (found, whole)) = rule_entry found.entry ∷ rest (drop whole bytes)
+read_on bytes rest None = []
 
 -- the entries that bytes hold, one after the other, at most so many
 unfoldable pub entries_from : ℕ → List ℕ → List RuleEntry
@@ -86,13 +83,13 @@ entries_in bytes = entries_from (length bytes) bytes
 
 -- the answer to an account: the number of a refusal, or the entries that the buffer begins with
 abbrev pub answer_in : Reply → (buffer : List ℕ) → Rule-Call.Answer Filed Event ℕ
-answer_in (Refused n) buffer = Rule-Call.refused n
-answer_in (Taken consumed written) buffer = Rule-Call.taken (entries_in (take written buffer))
+answer_in (Err refusal) buffer = Rule-Call.refused (number_of refusal)
+answer_in (Ok taken) buffer = Rule-Call.taken (entries_in (take taken.written buffer))
 
 -- an exchange as an account sees it: one whose message names it, and no other
-abbrev pub seen_of : ℕ → Reply → (buffer : List ℕ) → Reading → List (rule-history.Seen Filed Event ℕ)
-seen_of i reply buffer (Reading'.Refused n) = []
-seen_of i reply buffer (Reading'.Message m consumed) =
+abbrev pub seen_of : ℕ → Reply → (buffer : List ℕ) → Result (Message × ℕ) Refusal → List (rule-history.Seen Filed Event ℕ)
+seen_of i reply buffer (Err refusal) = []
+seen_of i reply buffer (Ok (m, consumed)) =
     cond (eqb (heading_of m).account i) (record { message = rule_message m; answer = answer_in reply buffer } ∷ []) []
 
 -- all exchanges as an account sees them
@@ -129,11 +126,11 @@ module _ (R : rule.Rule State Event ℕ) where
 -- an account sees the exchanges whose messages name it, in their order, and no other
 pub record Sight (i : ℕ) (xs : List Exchange) (x : Exchange) : Type 0 where
   pub nothing : seen_by i [] ≡ []
-  pub unread : (n : ℕ) → message.read_of x.message ≡ Reading'.Refused n → seen_by i (xs ++ (x ∷ [])) ≡ seen_by i xs
+  pub unread : (refusal : Refusal) → message.read_of x.message ≡ Err refusal → seen_by i (xs ++ (x ∷ [])) ≡ seen_by i xs
   pub another : (account_in x.message ≡ i → ⊥) → seen_by i (xs ++ (x ∷ [])) ≡ seen_by i xs
   pub refused :
-      (m : Message) (consumed n : ℕ) → message.read_of x.message ≡ Reading'.Message m consumed → account_in x.message ≡ i → refusal_of x.reply ≡ some n
+      (m : Message) (consumed n : ℕ) → message.read_of x.message ≡ Ok (m, consumed) → account_in x.message ≡ i → refusal_of x.reply ≡ some n
       → seen_by i (xs ++ (x ∷ [])) ≡ seen_by i xs ++ (record { message = rule_message m; answer = Rule-Call.refused n } ∷ [])
   pub taken :
-      (m : Message) (consumed : ℕ) → message.read_of x.message ≡ Reading'.Message m consumed → account_in x.message ≡ i → refusal_of x.reply ≡ none
+      (m : Message) (consumed : ℕ) → message.read_of x.message ≡ Ok (m, consumed) → account_in x.message ≡ i → refusal_of x.reply ≡ none
       → seen_by i (xs ++ (x ∷ [])) ≡ seen_by i xs ++ (record { message = rule_message m; answer = Rule-Call.taken (entries_in (written_in x)) } ∷ [])

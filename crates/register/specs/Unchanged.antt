@@ -7,19 +7,19 @@ use Rattle.rule.specs.Rule.{Rule}
 use Rattle.events.specs.declared.Event.{Event}
 use Rattle.events.specs.declared.State.{State}
 use Rattle.filing.specs.Entries.{entries_of}
+use Rattle.account.specs.Steps as steps
 use Rattle.account.specs.Steps.{refusal_in}
 use Rattle.message.specs.declared.Message.{Message}
 use Rattle.message.specs.Bytes.{heading_of}
 use Rattle.register.specs.declared.Register.{Register}
-use Rattle.register.specs.declared.Reply.{Reply}
 use Rattle.register.specs.Register.{sent_by}
-use Rattle.register.specs.Call.{refusal_of, consumed_of, written_of, called_by}
+use Rattle.register.specs.Call.{Reply, refusal_of, consumed_of, written_of, called_by}
 use Rattle.register.specs.Refusals.{account_in, length_by, standing_at}
 
 module _ (R : Rule State Event ℕ) (r : Register) (m : Message) where
   -- a message that is refused changes nothing and brings no entry; one that is taken changes the account that it names alone
   pub record SendLeaves : Type 0 where
-    pub refused : (n : ℕ) → refusal_in (sent_by R r m).answer ≡ some n → ((sent_by R r m).register ≡ r) × ((sent_by R r m).entries ≡ entries_of [])
+    pub refused : (n : ℕ) → refusal_in (sent_by R r m).answer ≡ some n → ((sent_by R r m).register ≡ r) × (steps.entries_in (sent_by R r m).answer ≡ entries_of [])
     pub count : length (sent_by R r m).register.accounts ≡ length r.accounts
     pub others : (j : ℕ) → (j ≡ (heading_of m).account → ⊥) → standing_at (sent_by R r m).register j ≡ standing_at r j
 

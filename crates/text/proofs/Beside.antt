@@ -22,9 +22,10 @@ use Rattle.message.specs.Inverse.{Writable}
 use Rattle.message.proofs.Inverse.{writes-read}
 use Rattle.entry.specs.Bytes.{bytes_of_entries, list_of}
 use Rattle.register.specs.declared.Register.{Register}
-use Rattle.register.specs.declared.Reply.{Reply}
-use Rattle.register.specs.declared.Reply.TheVariants.{Refused, Taken}
-use Rattle.register.specs.Call.{Result, written_of}
+use Rattle.std.specs.Prelude.{Ok, Err}
+use Rattle.refusal.specs.declared.Refusal.{Refusal}
+use Rattle.refusal.specs.Numbers.{number_of}
+use Rattle.register.specs.Call.{Reply, Called, written_of}
 use Rattle.register.specs.First.{fresh_register, sent_of, call_of, after, exchanges}
 use Rattle.register.specs.Sequence.{Input, Exchange, ByteStrings, rule_entry, entries_in}
 use Rattle.register.specs.Run.{length_at, passed_of}
@@ -125,15 +126,15 @@ abbrev seen_as : Register → (bytes buffer : List ℕ) → Exchange
 seen_as r bytes buffer = record { message = bytes; reply = (call_of r bytes buffer).reply; buffer = (call_of r bytes buffer).buffer }
 
 -- the same refusal, the same register, and the next message at the same place
-record Alike (turn : Turn) (whole : ℕ) (called : Result) : Type 0 where
+record Alike (turn : Turn) (whole : ℕ) (called : Called) : Type 0 where
   refused : refusals turn.reply ≡ refusals called.reply
   register : turn.register ≡ called.register
   consumed : (passed_of turn.reply whole).consumed ≡ (passed_of called.reply whole).consumed
   stops : (passed_of turn.reply whole).stops ≡ (passed_of called.reply whole).stops
 
 module _ (r : Register) (bytes buffer : List ℕ) (reached : Reached r) (are : AreBytes bytes) (room : 323 ≤ length buffer) where
-  says-refused : (n : ℕ) → (call_of r bytes buffer).reply ≡ Refused n → Says (seen_as r bytes buffer) (refused_line n)
-  says-refused n e = rw (refused-plain n) (by.refused n e)
+  says-refused : (n : Refusal) → (call_of r bytes buffer).reply ≡ Err n → Says (seen_as r bytes buffer) (refused_line (number_of n))
+  says-refused n e = rw (refused-plain (number_of n)) (by.refused n e)
 
   says : {turn : Turn} → Turning r bytes turn → Says (seen_as r bytes buffer) turn.text
   says (unread n q) = says-refused n (rw (call-unread r bytes buffer n q))
@@ -151,7 +152,7 @@ module _ (r : Register) (bytes buffer : List ℕ) (reached : Reached r) (are : A
   alike (turn.taken m consumed next entries q e) = rw (call-sent r bytes buffer room m consumed _ q e) (record { refused = refl; register = refl; consumed = refl; stops = refl })
 
   -- a call writes no more than 323 bytes
-  written-few : {R : Rule State Event ℕ} → Suits R → {called : Result} → Calling R r bytes buffer called → written_of called.reply ≤ 323
+  written-few : {R : Rule State Event ℕ} → Suits R → {called : Called} → Calling R r bytes buffer called → written_of called.reply ≤ 323
   written-few suits (call.refused n why) = omega arith
   written-few suits (call.taken m consumed t) = taken-bytes _ r m suits t.free (heading_of m).account
 
@@ -170,25 +171,25 @@ module _ (r : Register) (bytes buffer : List ℕ) (reached : Reached r) (are : A
         rw (a.register, a.consumed, a.stops) rest in
         rw (turns_more most r bytes h, is) (more a.refused (says (turning r bytes)) on)
 
-    one-stops : (most n : ℕ) → 0 < length bytes → x.reply ≡ Refused n → (n ≡ 1) ⊎ (n ≡ 2) → Beside (turns_from (suc most) r bytes) (x ∷ [])
-    one-stops most n h q which = one_more most [] h (rw (gives (Refused n) q, passed-stops n (length_at bytes) which) none)
+    one-stops : (most : ℕ) (n : Refusal) → 0 < length bytes → x.reply ≡ Err n → (number_of n ≡ 1) ⊎ (number_of n ≡ 2) → Beside (turns_from (suc most) r bytes) (x ∷ [])
+    one-stops most n h q which = one_more most [] h (rw (gives (Err n) q, passed-stops n (length_at bytes) which) none)
 
     -- after a message that is skipped, or taken, the next one starts behind it
-    one-skips : (most n whole : ℕ) (seen : List Exchange) → 3 ≤ n → x.reply ≡ Refused n → Whole bytes whole
+    one-skips : (most : ℕ) (n : Refusal) (whole : ℕ) (seen : List Exchange) → 3 ≤ number_of n → x.reply ≡ Err n → Whole bytes whole
         → Beside (turns_from most (call_of r bytes buffer).register (drop whole bytes)) seen → Beside (turns_from (suc most) r bytes) (x ∷ seen)
     one-skips most n whole seen h q w rest =
-        let reply = gives (Refused n) q in
-        let stands = stands-refused bytes n h (rw reply at (call-tells _ first-suits r bytes buffer)) in
+        let reply = gives (Err n) q in
+        let stands = stands-refused bytes (number_of n) h (rw reply at (call-tells _ first-suits r bytes buffer)) in
         one_more most seen (a_byte w) (rw (reply, passed-skips n (length_at bytes) h, one-length stands.whole w) rest)
 
-    one-takes : (most whole written : ℕ) (seen : List Exchange) → x.reply ≡ Taken whole written → Whole bytes whole
+    one-takes : (most whole written : ℕ) (seen : List Exchange) → x.reply ≡ Ok (record { consumed = whole; written = written }) → Whole bytes whole
         → Beside (turns_from most (call_of r bytes buffer).register (drop whole bytes)) seen → Beside (turns_from (suc most) r bytes) (x ∷ seen)
-    one-takes most whole written seen q w rest = one_more most seen (a_byte w) (rw (gives (Taken whole written) q) rest)
+    one-takes most whole written seen q w rest = one_more most seen (a_byte w) (rw (gives (Ok (record { consumed = whole; written = written })) q) rest)
 
     -- the buffer that the run goes on with
-    room-left : (whole written : ℕ) → x.reply ≡ Taken whole written → length buffer ≤ length (drop written x.buffer) + 323
+    room-left : (whole written : ℕ) → x.reply ≡ Ok (record { consumed = whole; written = written }) → length buffer ≤ length (drop written x.buffer) + 323
     room-left whole written q =
-        let few : written ≤ 323 = rw (gives (Taken whole written) q) at (written-few first-suits (calling _ r bytes buffer)) in
+        let few : written ≤ 323 = rw (gives (Ok (record { consumed = whole; written = written })) q) at (written-few first-suits (calling _ r bytes buffer)) in
         let size : length x.buffer ≡ length buffer = rw is (call-moves _ first-suits r bytes buffer).size in
         omega (arith, length-drop written x.buffer)
 

@@ -4,14 +4,15 @@
 use Prim.Native.Nat.{ℕ, zero, suc, ◌+◌, ◌*◌, ◌-◌, ◌/◌, ◌%◌, ◌^◌, ◌≤◌, ◌<◌}
 use native.Mathlib.Nat.{pow-suc, div-lt_iff_lt-mul}
 use native.Mathlib.Omega.{arith}
-use mathlib.Core.Path.{◌≡◌, refl}
+use mathlib.Core.Path.{◌≡◌, refl, ap}
 use mathlib.Core.Bool.{Bool, true, false, cond, ◌&&◌}
 use mathlib.Core.List.{List, [], ◌∷◌, ◌++◌}
-use borrow.Author.Tests.{le-leb, lt-ltb, ltb-true, ltb-false}
+use borrow.Author.Tests.{le-leb, lt-ltb, le-ltb, ltb-true, ltb-false}
 use lib.Dec.{leb, ltb, lit<}
 use lib.ListN.{get_or}
 use Rattle.rule.specs.Lists.{every}
 use Rattle.text.specs.Text.{decimal_in, line_as}
+use Rattle.text.specs.Plain.{DecimalPlain}
 use Rattle.text.specs.Decimal.{value_from, Decimal, Decimals, LongestLineIs}
 use Rattle.entry.proofs.Booleans.{both}
 
@@ -61,3 +62,21 @@ decimals number h = decimals-in 9 number h
 pub longest-line-is : LongestLineIs
 unfolding line_as decimal_in
 longest-line-is = refl
+
+-- the digits of a number that has fewer than there are places are the same with one place more
+one-place-more : (places number : ℕ) → number < 10 ^ suc places → decimal_in (suc places) number ≡ decimal_in (suc (suc places)) number
+unfolding decimal_in
+one-place-more zero number h = rw (lt-ltb number 10 h) refl
+one-place-more (suc places) number h =
+    ap (λ (text : List ℕ). cond (ltb number 10) ((48 + number) ∷ []) (text ++ ((48 + number % 10) ∷ [])))
+    (one-place-more places (number / 10) ((div-lt_iff_lt-mul (lit< tt)).1 (rw pow-suc at h)))
+
+pub decimal-plain : (number : ℕ) → DecimalPlain number
+unfolding decimal_in
+decimal-plain number =
+    record {
+      one = λ h. rw (lt-ltb number 10 h) refl;
+      more =
+          λ h k.
+          rw (le-ltb number 10 h) (ap (λ (text : List ℕ). text ++ ((48 + number % 10) ∷ [])) (one-place-more 8 (number / 10) ((div-lt_iff_lt-mul (lit< tt)).1 (rw pow-suc at k))));
+    }

@@ -17,10 +17,10 @@ use Rattle.filing.specs.Entries.{entry_of}
 use Rattle.filing.proofs.Slots.{weighing-back}
 use Rattle.layout.specs.Number.{bytes_of, AreBytes}
 use Rattle.layout.specs.Fields.{written, last_account}
-use Rattle.entry.specs.declared.EntryReading.{EntryReading}
-use Rattle.entry.specs.declared.EntryReading.TheVariants.{Found, Nothing}
+use Rattle.std.specs.Prelude.{Option, Some, None}
+use Rattle.entry.specs.declared.Found.{Found}
 use Rattle.entry.specs.Bytes.{kind_of, bytes_of_entry, bytes_of_entries, length_of_told, bytes_as}
-use Rattle.entry.specs.Answers.{read_of}
+use Rattle.entry.specs.Answers.{said_of_entry, read_of, found_as}
 use Rattle.entry.specs.Inverse.{Writable}
 use Rattle.entry.proofs.Inverse.{reads-written, writes-read}
 use Rattle.entry.proofs.Stored.{length-entry}
@@ -84,14 +84,14 @@ module _ (i : ℕ) (known : i ≤ last_account) where
     bytes = bytes_of_entry i e ++ bytes_of_entries i es
 
     -- the first one is the one that is read, and behind it are the others
-    first : (x : Entry) (kind account whole : ℕ) → AreBytes bytes → read_of bytes ≡ Found x kind account whole → x ≡ e → entries_from most (drop whole bytes) ≡ map rule_entry es
+    first : (x : Entry) (kind account whole : ℕ) → AreBytes bytes → read_of bytes ≡ found_as x kind account whole → x ≡ e → entries_from most (drop whole bytes) ≡ map rule_entry es
         → EntryLines bytes (line_of i e ++ lines_of i es)
     unfolding bytes
     first x kind account whole are q same rest =
         let read = writes-read bytes kind account x whole are q in
         let writable : Writable i e = under account e (rw same at read.writable) in
         let own = reads-written i e (bytes_of_entries i es) writable in
-        let length' : whole ≡ length_of_told e.told = let z : Found x kind account whole ≡ Found e (kind_of e.told) i (length_of_told e.told) = sym q ∙ own in cc in
+        let length' : whole ≡ length_of_told e.told = let z : found_as x kind account whole ≡ found_as e (kind_of e.told) i (length_of_told e.told) = sym q ∙ own in ap (λ (o : Option (Found × ℕ)). (said_of_entry o).length') z in
         let left : drop whole bytes ≡ bytes_of_entries i es = drop_at (bytes_of_entry i e) (bytes_of_entries i es) whole (length-entry i e ∙ sym length') in
         by.more i e (kind_of e.told) (length_of_told e.told) own (on es (rw left at rest))
 
@@ -99,13 +99,13 @@ module _ (i : ℕ) (known : i ≤ last_account) where
     unfolding entries_from
     one_more are = go (read_of bytes) refl
       where
-        go : (reading : EntryReading) → read_of bytes ≡ reading → read_on bytes (λ (rest : List ℕ). entries_from most rest) reading ≡ rule_entry e ∷ map rule_entry es
+        go : (reading : Option (Found × ℕ)) → read_of bytes ≡ reading → read_on bytes (λ (rest : List ℕ). entries_from most rest) reading ≡ rule_entry e ∷ map rule_entry es
             → EntryLines bytes (line_of i e ++ lines_of i es)
-        go Nothing q z = let y : ◌≡◌ {A = ℕ} 0 1 = cc in absurd (omega arith)
-        go (Found x kind account whole) q z =
-            let head : rule_entry x ≡ rule_entry e = cc in
+        go None q z = let y : ◌≡◌ {A = ℕ} 0 1 = cc in absurd (omega arith)
+        go (Some (found, whole)) q z =
+            let head : rule_entry found.entry ≡ rule_entry e = cc in
             let tail : entries_from most (drop whole bytes) ≡ map rule_entry es = cc in
-            first x kind account whole are q (same-value x e head) tail
+            first found.entry found.kind found.account whole are q (same-value found.entry e head) tail
 
   lines_from : (most : ℕ) (es : List Entry) → entries_from most (bytes_of_entries i es) ≡ map rule_entry es → EntryLines (bytes_of_entries i es) (lines_of i es)
   unfolding entries_from bytes_of_entries lines_of bytes

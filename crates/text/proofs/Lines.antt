@@ -1,34 +1,33 @@
 -- A line of text, from its pieces, and how long it can be: each number of 4 bytes has at most ten digits, the account at most five.
 -- Assumes nothing.
 use Prim.Native.Nat.{ℕ, zero, suc, ◌+◌, ◌/◌, ◌%◌, ◌^◌, ◌≤◌, ◌<◌}
-use native.Mathlib.Nat.{zero-add, pow-suc, div-lt_iff_lt-mul, le_trans}
+use native.Mathlib.Nat.{pow-suc, div-lt_iff_lt-mul, le_trans}
 use native.Mathlib.Omega.{arith}
-use mathlib.Core.Path.{◌≡◌, refl, sym, ◌∙◌, ap}
+use mathlib.Core.Path.{◌≡◌, refl, ◌∙◌}
 use mathlib.Core.Bool.{Bool, true, false, cond}
 use mathlib.Core.List.{List, [], ◌∷◌, ◌++◌, append_assoc}
-use borrow.Author.Tests.{lt-ltb, le-ltb}
+use borrow.Author.Tests.{lt-ltb}
 use lib.Dec.{ltb, lit<, lit≤}
 use lib.ListN.{length, length-append}
+use lib.Seq.{sets, take_all}
 use Rattle.events.specs.declared.Event.{Event}
 use Rattle.events.specs.declared.Event.TheVariants.{Open, Withdraw, Deposit, Close}
 use Rattle.events.specs.Kinds.{amount_of}
 use Rattle.filing.specs.declared.Verdict.{Verdict}
 use Rattle.filing.specs.declared.Verdict.TheVariants.{Accepted, Rejected, Held}
-use Rattle.filing.specs.declared.Weighing.{Weighing}
 use Rattle.filing.specs.declared.Told.{Told}
 use Rattle.filing.specs.declared.Told.TheVariants.{Voted, Noted, Applied, Dropped}
 use Rattle.filing.specs.declared.Entry.{Entry}
-use Rattle.layout.specs.declared.Writing.TheVariants as Writing'
 use Rattle.entry.specs.Inverse.{reason_in}
-use Rattle.layout.specs.Answers.{wrote_over, refused_with}
+use Rattle.layout.specs.Writes.{laid_over}
 use Rattle.layout.proofs.Stores.{laid-over}
-use Rattle.text.specs.Text.{decimal_in, decimal, vote_name, name_of, event_name, heading_fields, reason_fields, then_fields, spaced, line_as, is_older, longest_line, write_line_of, Put}
-use Rattle.text.proofs.Texts.{put-append}
+use Rattle.text.specs.Text.{decimal_in, decimal, vote_name, name_of, event_name, heading_fields, reason_fields, then_fields, spaced, line_as, longest_line, kept}
+use Rattle.text.proofs.Texts.{grown, fields_grown, kept-still}
 
 -- ---- lengths
 
 -- at most as many digits as there are places,
-places-length : (places number : ℕ) → length (decimal_in places number) ≤ places
+pub places-length : (places number : ℕ) → length (decimal_in places number) ≤ places
 unfolding decimal_in
 places-length zero number = omega arith
 places-length (suc places) number = go (ltb number 10) (places-length places (number / 10))
@@ -106,50 +105,69 @@ line-length older account e h then =
     let s = places-length 10 e.filed.second in
     simp length-append (omega arith)
 
--- ---- a vote's fields, and the reason behind them
+-- ---- a line's pieces
 
-spaced-append : (fields more : List (List ℕ)) → spaced (fields ++ more) ≡ spaced fields ++ spaced more
-spaced-append [] more = refl
-spaced-append (field ∷ fields) more =
-    ap (λ (l : List ℕ). 32 ∷ (field ++ l)) (spaced-append fields more) ∙ ap (λ (l : List ℕ). 32 ∷ l) (sym (append_assoc field (spaced fields) (spaced more)))
+-- what an entry tells, behind its heading
+pub record Behind (l m : List ℕ) (fields : List (List ℕ)) : Type 0 where
+  pub short : length (spaced fields) ≤ 35
+  pub grown : m ≡ kept (l ++ spaced fields)
 
-pub vote-put : (older : Bool) (e : Event) (w : Weighing) (at a next : ℕ) (l l₁ l₂ : List ℕ)
-    → Put (spaced (event_name e ∷ decimal (amount_of e) ∷ decimal w.weighed ∷ [])) at 31 l a l₁
-    → Put (spaced (reason_fields older w.verdict w.reason)) a 4 l₁ next l₂
-    → Put (spaced (then_fields older (Voted e w))) at 35 l next l₂
-vote-put older e w at a next l l₁ l₂ p q =
-    let fields = event_name e ∷ decimal (amount_of e) ∷ decimal w.weighed ∷ [] in
-    let reason = reason_fields older w.verdict w.reason in
-    rw (spaced-append fields reason) (put-append (spaced fields) (spaced reason) at 31 4 a next l l₁ l₂ p q)
+module _ (e : Event) (l l₁ : List ℕ) (p : l₁ ≡ kept (l ++ spaced (event_name e ∷ decimal (amount_of e) ∷ []))) where
+  pub dropped-behind : Behind l l₁ (event_name e ∷ decimal (amount_of e) ∷ [])
+  dropped-behind = record { short = le_trans (event-fields e [] 0 (lit≤ tt)) (lit≤ tt); grown = p }
 
--- ---- the ways out
+  -- a number behind the event
+  module _ (number : ℕ) (l₂ : List ℕ) (q : l₂ ≡ kept (l₁ ++ spaced (decimal number ∷ []))) where
+    pub applied-behind : Behind l l₂ (event_name e ∷ decimal (amount_of e) ∷ decimal number ∷ [])
+    applied-behind =
+        record {
+          short = le_trans (event-fields e (decimal number ∷ []) 11 (number-field number)) (lit≤ tt);
+          grown = fields_grown (event_name e ∷ decimal (amount_of e) ∷ []) (decimal number ∷ []) l l₁ l₂ p q;
+        }
 
-pub write-small : (e : Entry) (kind account : ℕ) (l : List ℕ) → length l < longest_line → write_line_of e kind account l ≡ refused_with 4 l
-unfolding write_line_of
-write-small e kind account l h = rw (lt-ltb (length l) longest_line h)
+    -- and a reason behind the number: a byte has three digits at most
+    pub reason-behind : (reason : ℕ) (m : List ℕ) → reason < 256 → m ≡ kept (l₂ ++ spaced (decimal reason ∷ []))
+        → Behind l m (event_name e ∷ decimal (amount_of e) ∷ decimal number ∷ decimal reason ∷ [])
+    reason-behind reason m h r =
+        record {
+          short = event-fields e (decimal number ∷ decimal reason ∷ []) 15 (spaced-length (decimal number) (decimal reason ∷ []) 10 4 (places-length 10 number) (reason-length false Rejected reason h));
+          grown = fields_grown (event_name e ∷ decimal (amount_of e) ∷ decimal number ∷ []) (decimal reason ∷ []) l l₂ m applied-behind.grown r;
+        }
 
--- the pieces of a line are the line
-pub line-put : (older : Bool) (e : Entry) (account at a b d next : ℕ) (l l₁ l₂ l₃ l₄ : List ℕ) → account < 65536
-    → Put (name_of e.told) at 8 l a l₁
-    → Put (spaced (heading_fields e.transaction account e.filed)) a 33 l₁ b l₂
-    → Put (spaced (then_fields older e.told)) b 35 l₂ d l₃
-    → Put (10 ∷ []) d 1 l₃ next l₄
-    → Put (line_as older account e) at longest_line l next l₄
-unfolding line_as
-line-put older e account at a b d next l l₁ l₂ l₃ l₄ h p q r n =
-    let heading = spaced (heading_fields e.transaction account e.filed) in
-    let then = spaced (then_fields older e.told) in
-    let whole : Put (line_as older account e) at (8 + (33 + (35 + 1))) l next l₄ =
-    put-append (name_of e.told) (heading ++ (then ++ (10 ∷ []))) at 8 (33 + (35 + 1)) a next l l₁ l₄ p
-    (put-append heading (then ++ (10 ∷ [])) a 33 (35 + 1) b next l₁ l₂ l₄ q (put-append then (10 ∷ []) b 35 1 d next l₂ l₃ l₄ r n)) in
-    record { place = whole.place; within = omega (arith, whole.place, line-length older account e h (omega (arith, r.place, r.within))); stored = whole.stored }
+pub noted-behind : (xs l : List ℕ) → l ≡ kept xs → Behind l l []
+noted-behind xs l p = record { short = lit≤ tt; grown = kept-still xs l p }
 
--- and where it has room it is what the writer gives
-pub write-line : (e : Entry) (kind account d : ℕ) (l l₁ : List ℕ) → account < 65536 → longest_line ≤ length l → Put (line_as (is_older kind) account e) 0 longest_line l d l₁
-    → (Writing'.Written d ≡ (write_line_of e kind account l).answer) × (l₁ ≡ (write_line_of e kind account l).buffer)
-unfolding write_line_of
-write-line e kind account d l l₁ h room p =
-    let fits : length (line_as (is_older kind) account e) ≤ length l = omega (arith, p.place, p.within) in
-    let size : d ≡ length (line_as (is_older kind) account e) = p.place ∙ zero-add (length (line_as (is_older kind) account e)) in
-    let t : write_line_of e kind account l ≡ wrote_over (line_as (is_older kind) account e) l = rw (le-ltb (length l) longest_line room) in
-    (rw (t, size), rw t (p.stored ∙ laid-over (line_as (is_older kind) account e) l fits))
+-- of an older vote no reason is told
+pub no-reason : (verdict : Verdict) (reason : ℕ) → reason_fields true verdict reason ≡ []
+no-reason Accepted reason = refl
+no-reason Rejected reason = refl
+no-reason Held reason = refl
+
+module _ (account : ℕ) (e : Entry) where
+  -- name, transaction, account and second
+  pub heading-grown : (l₀ l₁ l₂ l₃ l₄ : List ℕ) → l₀ ≡ [] → l₁ ≡ kept (l₀ ++ name_of e.told) → l₂ ≡ kept (l₁ ++ spaced (decimal e.transaction ∷ []))
+      → l₃ ≡ kept (l₂ ++ spaced (decimal account ∷ [])) → l₄ ≡ kept (l₃ ++ spaced (decimal e.filed.second ∷ []))
+      → l₄ ≡ kept (name_of e.told ++ spaced (heading_fields e.transaction account e.filed))
+  heading-grown l₀ l₁ l₂ l₃ l₄ p₀ p₁ p₂ p₃ p₄ =
+      let t = decimal e.transaction ∷ [] in
+      let a = decimal account ∷ [] in
+      let s = decimal e.filed.second ∷ [] in
+      let first : l₁ ≡ kept ([] ++ name_of e.told) = rw p₀ at p₁ in
+      grown (name_of e.told) (spaced (t ++ (a ++ s))) [] l₁ l₄ first
+      (fields_grown t (a ++ s) l₁ l₂ l₄ p₂ (fields_grown a s l₂ l₃ l₄ p₃ p₄))
+
+  -- the rest, and the newline: the line is no longer than the longest
+  pub line-grown : (older : Bool) (l₄ l₅ l₆ : List ℕ) → account < 65536
+      → l₄ ≡ kept (name_of e.told ++ spaced (heading_fields e.transaction account e.filed))
+      → Behind l₄ l₅ (then_fields older e.told) → l₆ ≡ kept (l₅ ++ 10 ∷ []) → l₆ ≡ line_as older account e
+  unfolding line_as
+  line-grown older l₄ l₅ l₆ h p q r =
+      let first = name_of e.told ++ spaced (heading_fields e.transaction account e.filed) in
+      let rest = spaced (then_fields older e.told) in
+      let all : l₆ ≡ kept ([] ++ (first ++ (rest ++ (10 ∷ [])))) = grown first (rest ++ (10 ∷ [])) [] l₄ l₆ p (grown rest (10 ∷ []) l₄ l₅ l₆ q.grown r) in
+      let line : first ++ (rest ++ (10 ∷ [])) ≡ line_as older account e = append_assoc (name_of e.told) (spaced (heading_fields e.transaction account e.filed)) (rest ++ (10 ∷ [])) in
+      all ∙ rw line (take_all longest_line (line_as older account e) (line-length older account e h q.short))
+
+-- where a line has room it is laid over the buffer
+pub line_stored : (line l l₁ : List ℕ) → length line ≤ longest_line → longest_line ≤ length l → l₁ ≡ sets l 0 line → l₁ ≡ laid_over line l
+line_stored line l l₁ short room stored = stored ∙ laid-over line l (omega arith)

@@ -1,28 +1,25 @@
--- The pieces of the program's text, put one behind the other: the beginning, a refusal, the last line, the lines of a call's entries. The lines are
+-- The pieces of the program's text, stored from the beginning of a buffer on: a refusal, the last line, the lines of a call's entries. Those are
 -- put in a loop: what is put are the lines of the entries passed.
 -- Assumes nothing.
-use Prim.Native.Nat.{ℕ, ◌+◌, ◌*◌, ◌≤◌, ◌<◌, min}
-use native.Mathlib.Nat.{zero-add}
-use native.Mathlib.Numerals.{add-one}
+use Prim.Native.Nat.{ℕ, ◌+◌, ◌*◌, ◌≤◌, ◌<◌}
+use native.Mathlib.Nat.{zero-add, le_trans}
 use native.Mathlib.Omega.{arith}
 use mathlib.Core.Path.{◌≡◌, refl, sym, ◌∙◌}
 use mathlib.Core.List.{List, [], ◌∷◌, ◌++◌, append-nil, append_assoc}
-use borrow.Author.Tests.{lt-ltb, le-ltb}
+use borrow.Author.Tests.{le-ltb}
+use lib.Dec.{lit≤}
 use lib.ListN.{length, get_or, take, drop, length-append}
-use lib.Seq.{sets, take-suc, take-append_seam, drop-append_seam}
+use lib.Seq.{sets, take_all, take-append_seam, drop-append_seam}
+use Rattle.std.proofs.lemmas.List.{take_more}
 use Rattle.filing.specs.declared.Entry.{Entry}
-use Rattle.filing.specs.declared.Entries.{Entries}
 use Rattle.layout.proofs.Stores.{sets_more, laid-over}
-use Rattle.entry.specs.Bytes.{list_of}
-use Rattle.entry.proofs.Stored.{no_entry, all-places}
-use Rattle.register.specs.declared.Register.{Register}
-use Rattle.register.specs.First.{fresh_register}
 use Rattle.text.specs.declared.program.Served.{Served}
-use Rattle.text.specs.Text.{decimal, spaced, line_of, lines_of, longest_line, Put}
+use Rattle.text.specs.Text.{decimal, spaced, line_of, lines_of, longest_line, kept, Put}
 use Rattle.text.specs.Quoted.{quoted}
-use Rattle.text.specs.Output.{longest_input, first_line, too_long, refused_line, last_line}
-use Rattle.text.specs.Program.{longest_text, begin_text, begin_of, finish_text, TextAtTheBeginning}
-use Rattle.text.proofs.Texts.{put-nothing, put-append, put-room, spaced-append}
+use Rattle.text.specs.Output.{longest_input, refused_line, last_line}
+use Rattle.text.specs.Program.{finish_text, TextAtTheBeginning}
+use Rattle.text.proofs.Texts.{grown, fields_grown}
+use Rattle.text.proofs.Lines.{places-length}
 
 -- text from the beginning of a buffer on ends at its length
 pub put-length : (text : List ℕ) (most next : ℕ) (l l₁ : List ℕ) → Put text 0 most l next l₁ → next ≡ length text
@@ -35,56 +32,53 @@ text-at-the-beginning text most before next after p room =
     let laid : after ≡ text ++ drop (length text) before = p.stored ∙ laid-over text before (omega arith) in
     (h, rw (laid, n) (take-append_seam text (drop (length text) before)), rw (laid, n) (drop-append_seam text (drop (length text) before)))
 
--- ---- the beginning
+-- text that was stored from the beginning of a buffer on
+pub put_stored : (text : List ℕ) (most next : ℕ) (l l₁ : List ℕ) → next ≡ length text → next ≤ most → l₁ ≡ sets l 0 text → Put text 0 most l next l₁
+put_stored text most next l l₁ n h stored = record { place = n ∙ sym (zero-add (length text)); within = omega arith; stored = stored }
 
-module _ (input l l₁ : List ℕ) (register : Register) (fresh : register ≡ fresh_register) (first : ℕ) (p : Put (quoted "register 1\n") 0 11 l first l₁) where
-  pub begins : length input ≤ longest_input
-      → (◌≡◌ {A = Served} (record { register = register; from = 0; met = 0; refused = 0; written = first }) (begin_of input)) × Put (begin_text input) 0 20 l first l₁
-  unfolding first_line
-  begins h =
-      let q = put-room (quoted "register 1\n") 0 11 20 first l l₁ (omega arith) p in
-      let n = put-length (quoted "register 1\n") 20 first l l₁ q in
-      rw (le-ltb longest_input (length input) h, append-nil (quoted "register 1\n")) (rw (fresh, n), q)
+-- none
+pub put-nothing : (most : ℕ) (l : List ℕ) → Put [] 0 most l 0 l
+put-nothing most l = put_stored [] most 0 l l refl (omega arith) refl
 
-  pub begins-long : (l₂ : List ℕ) (second : ℕ) → longest_input < length input → Put (quoted "too long\n") first 9 l₁ second l₂
-      → (◌≡◌ {A = Served} (record { register = register; from = length input; met = 0; refused = 0; written = second }) (begin_of input)) × Put (begin_text input) 0 20 l second l₂
-  unfolding first_line too_long
-  begins-long l₂ second h r =
-      let q = put-append (quoted "register 1\n") (quoted "too long\n") 0 11 9 first second l l₁ l₂ p r in
-      let n = put-length (quoted "register 1\n" ++ quoted "too long\n") 20 second l l₂ q in
-      rw (lt-ltb longest_input (length input) h) (rw (fresh, n), q)
+-- ---- a refusal, and the last line: a word, numbers, and the newline
 
--- ---- a refusal, and the last line: letters, numbers, and the newline
+pub word-line : (word : List ℕ) (fields : List (List ℕ)) (l₀ l₁ l₂ l₃ : List ℕ) → l₀ ≡ [] → l₁ ≡ kept (l₀ ++ word) → l₂ ≡ kept (l₁ ++ spaced fields)
+    → l₃ ≡ kept (l₂ ++ 10 ∷ []) → length (word ++ (spaced fields ++ (10 ∷ []))) ≤ longest_line → l₃ ≡ word ++ (spaced fields ++ (10 ∷ []))
+word-line word fields l₀ l₁ l₂ l₃ p₀ p₁ p₂ p₃ short =
+    let first : l₁ ≡ kept ([] ++ word) = rw p₀ at p₁ in
+    let all : l₃ ≡ kept ([] ++ (word ++ (spaced fields ++ (10 ∷ [])))) =
+    grown word (spaced fields ++ (10 ∷ [])) [] l₁ l₃ first (grown (spaced fields) (10 ∷ []) l₁ l₂ l₃ p₂ p₃) in
+    all ∙ take_all longest_line (word ++ (spaced fields ++ (10 ∷ []))) short
 
--- one number more
-named_more : (letters : List ℕ) (xs ys : List (List ℕ)) (m n a b : ℕ) (l l₁ l₂ : List ℕ) → Put (letters ++ spaced xs) 0 m l a l₁ → Put (spaced ys) a n l₁ b l₂
-    → Put (letters ++ spaced (xs ++ ys)) 0 (m + n) l b l₂
-named_more letters xs ys m n a b l l₁ l₂ p q =
-    rw (spaced-append xs ys, ← append_assoc letters (spaced xs) (spaced ys)) (put-append (letters ++ spaced xs) (spaced ys) 0 m n a b l l₁ l₂ p q)
-
-named-ended : (letters : List ℕ) (xs : List (List ℕ)) (m a b : ℕ) (l l₁ l₂ : List ℕ) → Put (letters ++ spaced xs) 0 m l a l₁ → Put (10 ∷ []) a 1 l₁ b l₂
-    → Put (letters ++ (spaced xs ++ (10 ∷ []))) 0 (m + 1) l b l₂
-named-ended letters xs m a b l l₁ l₂ p q = rw (← append_assoc letters (spaced xs) (10 ∷ [])) (put-append (letters ++ spaced xs) (10 ∷ []) 0 m 1 a b l l₁ l₂ p q)
-
-pub refusal-put : (number a b : ℕ) (l l₁ l₂ : List ℕ) → Put (quoted "refused" ++ spaced (decimal number ∷ [])) 0 18 l a l₁ → Put (10 ∷ []) a 1 l₁ b l₂
-    → Put (refused_line number) 0 longest_text l b l₂
+pub refusal-length : (number : ℕ) → length (refused_line number) ≤ 19
 unfolding refused_line quoted
-refusal-put number a b l l₁ l₂ p q =
-    put-room (refused_line number) 0 19 longest_text b l l₂ (omega arith) (named-ended (quoted "refused") (decimal number ∷ []) 18 a b l l₁ l₂ p q)
+refusal-length number = let n = places-length 10 number in simp length-append (omega arith)
 
-pub last-put : (met refused a b d : ℕ) (l l₁ l₂ l₃ : List ℕ) → Put (quoted "end" ++ spaced (decimal met ∷ [])) 0 14 l a l₁
-    → Put (spaced (decimal refused ∷ [])) a 11 l₁ b l₂ → Put (10 ∷ []) b 1 l₂ d l₃ → Put (last_line met refused) 0 26 l d l₃
+pub last-length : (met refused : ℕ) → length (last_line met refused) ≤ 26
 unfolding last_line quoted
-last-put met refused a b d l l₁ l₂ l₃ p q r =
-    named-ended (quoted "end") (decimal met ∷ decimal refused ∷ []) 25 b d l l₂ l₃
-    (named_more (quoted "end") (decimal met ∷ []) (decimal refused ∷ []) 14 11 a b l l₁ l₂ p q) r
+last-length met refused = let m = places-length 10 met in let n = places-length 10 refused in simp length-append (omega arith)
+
+-- the letters of the words stand here as in the code
+pub refusal_grown : (number : ℕ) (l₀ l₁ l₂ l₃ : List ℕ) → l₀ ≡ [] → l₁ ≡ kept (l₀ ++ (114 ∷ 101 ∷ 102 ∷ 117 ∷ 115 ∷ 101 ∷ 100 ∷ [])) → l₂ ≡ kept (l₁ ++ spaced (decimal number ∷ []))
+    → l₃ ≡ kept (l₂ ++ 10 ∷ []) → (l₃ ≡ refused_line number) × (length (refused_line number) ≤ 19)
+unfolding refused_line quoted
+refusal_grown number l₀ l₁ l₂ l₃ p₀ p₁ p₂ p₃ =
+    let short = refusal-length number in
+    (word-line (quoted "refused") (decimal number ∷ []) l₀ l₁ l₂ l₃ p₀ p₁ p₂ p₃ (le_trans short (lit≤ tt)), short)
+
+pub last-line : (met refused : ℕ) (l₀ l₁ l l₂ l₃ : List ℕ) → l₀ ≡ [] → l₁ ≡ kept (l₀ ++ (101 ∷ 110 ∷ 100 ∷ [])) → l ≡ kept (l₁ ++ spaced (decimal met ∷ []))
+    → l₂ ≡ kept (l ++ spaced (decimal refused ∷ [])) → l₃ ≡ kept (l₂ ++ 10 ∷ []) → l₃ ≡ last_line met refused
+unfolding last_line quoted
+last-line met refused l₀ l₁ l l₂ l₃ p₀ p₁ q r p₃ =
+    word-line (quoted "end") (decimal met ∷ decimal refused ∷ []) l₀ l₁ l₂ l₃ p₀ p₁ (fields_grown (decimal met ∷ []) (decimal refused ∷ []) l₁ l l₂ q r) p₃
+    (le_trans (last-length met refused) (lit≤ tt))
 
 module _ (s : Served) (input : List ℕ) where
-  pub finishes : (next : ℕ) (l l₁ : List ℕ) → length input ≤ longest_input → Put (last_line s.met s.refused) 0 26 l next l₁ → Put (finish_text s input) 0 26 l next l₁
-  finishes next l l₁ h p = rw (le-ltb longest_input (length input) h) p
-
-  pub finishes-long : (l : List ℕ) → longest_input < length input → Put (finish_text s input) 0 26 l 0 l
-  finishes-long l h = rw (lt-ltb longest_input (length input) h) (put-room [] 0 0 26 0 l l (omega arith) (put-nothing 0 l))
+  pub finishes : (next : ℕ) (l l₁ : List ℕ) → length input ≤ longest_input → next ≡ length (last_line s.met s.refused) → l₁ ≡ sets l 0 (last_line s.met s.refused)
+      → Put (finish_text s input) 0 26 l next l₁
+  finishes next l l₁ h n stored =
+      let fits = last-length s.met s.refused in
+      rw (le-ltb longest_input (length input) h) (put_stored (last_line s.met s.refused) 26 next l l₁ n (omega arith) stored)
 
 -- ---- the lines of a call
 
@@ -93,44 +87,27 @@ unfolding lines_of
 lines-append account [] ys = refl
 lines-append account (x ∷ xs) ys = rw (append_assoc, lines-append account xs ys)
 
--- one line more
-lines_more : (account : ℕ) (places : List Entry) (i : ℕ) → i < length places
-    → lines_of account (take (i + 1) places) ≡ lines_of account (take i places) ++ line_of account (get_or places i no_entry)
-unfolding lines_of
-lines_more account places i h = rw (add-one, take-suc places i no_entry h, lines-append, append-nil)
-
--- after i of so many entries: where the next line goes, and what is put
-pub record Lined (places : List Entry) (account count : ℕ) (before after : List ℕ) (at i : ℕ) : Type 0 where
-  pub passed : i ≤ count
+-- after i of the entries: where the next line goes, and what is put
+pub record Lined (entries : List Entry) (account : ℕ) (before after : List ℕ) (at i : ℕ) : Type 0 where
   pub room : at ≤ 72 * i
-  pub size : length after ≡ length before
-  pub place : at ≡ length (lines_of account (take i places))
-  pub stored : after ≡ sets before 0 (lines_of account (take i places))
+  pub place : at ≡ length (lines_of account (take i entries))
+  pub stored : after ≡ sets before 0 (lines_of account (take i entries))
 
-pub lined-start : (places : List Entry) (account count : ℕ) (before : List ℕ) → Lined places account count before before 0 0
+pub lined-start : (entries : List Entry) (account : ℕ) (before : List ℕ) → Lined entries account before before 0 0
 unfolding lines_of
-lined-start places account count before = record { passed = omega arith; room = omega arith; size = refl; place = refl; stored = refl }
+lined-start entries account before = record { room = omega arith; place = refl; stored = refl }
 
-module _ (places : List Entry) (account count : ℕ) (before after : List ℕ) (at i : ℕ) (u : Lined places account count before after at i) where
-  pub lined-more : (next : ℕ) (after' : List ℕ) → i < count → i < length places → Put (line_of account (get_or places i no_entry)) at longest_line after next after'
-      → length after' ≡ length after → Lined places account count before after' next (i + 1)
-  lined-more next after' h there p kept =
-      let done = lines_of account (take i places) in
-      let line = line_of account (get_or places i no_entry) in
-      let more = lines_more account places i there in
-      let n : next ≡ length (done ++ line) = rw length-append (omega (arith, u.place, p.place)) in
+module _ (entries : List Entry) (account : ℕ) (before after : List ℕ) (at i : ℕ) (u : Lined entries account before after at i) where
+  -- one line more
+  pub lined-more : (d : Entry) (size : ℕ) (after' : List ℕ) → i < length entries → size ≡ length (line_of account (get_or entries i d)) → size ≤ longest_line
+      → after' ≡ sets after at (line_of account (get_or entries i d)) → Lined entries account before after' (at + size) (i + 1)
+  unfolding lines_of
+  lined-more d size after' h n short stored =
+      let done = lines_of account (take i entries) in
+      let line = line_of account (get_or entries i d) in
+      let more : lines_of account (take (i + 1) entries) ≡ done ++ line = rw (take_more entries i d h, lines-append, append-nil) in
       record {
-        passed = omega arith;
-        room = omega (arith, p.within, u.room);
-        size = kept ∙ u.size;
-        place = rw more n;
-        stored = rw more (sets_more done line before after after' 0 at (sym u.place) u.stored (rw (sym (zero-add at)) at p.stored));
+        room = omega (arith, short, u.room);
+        place = rw (more, length-append) (omega (arith, u.place, n));
+        stored = rw more (sets_more done line before after after' 0 at (sym u.place) u.stored (rw (sym (zero-add at)) at stored));
       }
-
-pub lined-all : (entries : Entries) (account count : ℕ) (before after : List ℕ) (at i : ℕ) → length entries.at ≡ 17 → count ≡ min entries.count 17
-    → Lined entries.at account count before after at i → count ≤ i → Put (lines_of account (list_of entries)) 0 longest_text before at after
-lined-all entries account count before after at i size c u h =
-    let all : i ≡ min entries.count 17 = omega (arith, u.passed) in
-    let these : take i entries.at ≡ list_of entries = rw all (all-places entries.at entries.count size) in
-    rw (← these)
-    (record { place = u.place ∙ sym (zero-add (length (lines_of account (take i entries.at)))); within = omega (arith, u.room); stored = u.stored })

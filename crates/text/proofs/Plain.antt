@@ -1,38 +1,18 @@
--- The digits of a number that has fewer than there are places are the same with one place more; the rest by the tests and by computing.
+-- By the tests and by computing.
 -- Assumes nothing.
-use Prim.Native.Nat.{ℕ, zero, suc, ◌+◌, ◌/◌, ◌%◌, ◌^◌, ◌<◌}
-use native.Mathlib.Nat.{pow-suc, div-lt_iff_lt-mul}
-use mathlib.Core.Path.{◌≡◌, refl, ap}
-use mathlib.Core.Bool.{cond}
-use mathlib.Core.List.{List, [], ◌∷◌, ◌++◌}
+use Prim.Native.Nat.{ℕ}
+use mathlib.Core.Path.{refl}
+use mathlib.Core.List.{List}
 use borrow.Author.Tests.{lt-ltb, le-ltb, eq-eqb, ne_eqb}
-use lib.Dec.{ltb, lit<}
 use lib.ListN.{length}
 use Rattle.text.specs.declared.program.Served.{Served}
-use Rattle.text.specs.Text.{decimal_in, write_line_of}
+use Rattle.text.specs.Text.{write_line_of}
 use Rattle.text.specs.Quoted.{quoted}
 use Rattle.text.specs.Output.{longest_input, first_line, too_long}
 use Rattle.text.specs.Program.{serve_text, serve_of}
-use Rattle.text.specs.Plain.{DecimalPlain, StepsPlain, PlainHolds}
-use Rattle.text.proofs.Decimals.{value-last}
+use Rattle.text.specs.Plain.{StepsPlain, PlainHolds}
+use Rattle.text.proofs.Decimals.{value-last, decimal-plain}
 use Rattle.text.proofs.OutputCalls.{other-lines-plain}
-
-one-place-more : (places number : ℕ) → number < 10 ^ suc places → decimal_in (suc places) number ≡ decimal_in (suc (suc places)) number
-unfolding decimal_in
-one-place-more zero number h = rw (lt-ltb number 10 h) refl
-one-place-more (suc places) number h =
-    ap (λ (text : List ℕ). cond (ltb number 10) ((48 + number) ∷ []) (text ++ ((48 + number % 10) ∷ [])))
-    (one-place-more places (number / 10) ((div-lt_iff_lt-mul (lit< tt)).1 (rw pow-suc at h)))
-
-decimal-plain : (number : ℕ) → DecimalPlain number
-unfolding decimal_in
-decimal-plain number =
-    record {
-      one = λ h. rw (lt-ltb number 10 h) refl;
-      more =
-          λ h k.
-          rw (le-ltb number 10 h) (ap (λ (text : List ℕ). text ++ ((48 + number % 10) ∷ [])) (one-place-more 8 (number / 10) ((div-lt_iff_lt-mul (lit< tt)).1 (rw pow-suc at k))));
-    }
 
 steps-plain : (s : Served) (input : List ℕ) → StepsPlain s input
 unfolding quoted first_line too_long serve_text serve_of

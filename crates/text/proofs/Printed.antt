@@ -18,8 +18,9 @@ use Rattle.filing.specs.declared.Verdict.{Verdict}
 use Rattle.filing.specs.declared.Verdict.TheVariants.{Accepted, Rejected, Held}
 use Rattle.filing.specs.declared.Told.{Told}
 use Rattle.filing.specs.declared.Told.TheVariants.{Voted, Noted, Applied, Dropped}
-use Rattle.layout.specs.Answers.{wrote_over}
-use Rattle.layout.proofs.Answers.{wrote-stays, cond-stays}
+use Rattle.refusal.specs.declared.Refusal.TheVariants.{NoRoom}
+use Rattle.layout.specs.Writes.{wrote_over}
+use Rattle.layout.proofs.Writes.{wrote-stays, cond-stays}
 use Rattle.text.specs.Text.{decimal_in, decimal, vote_name, name_of, event_name, heading_fields, reason_fields, then_fields, spaced, line_as, line_of, lines_of, longest_line, write_line_of}
 use Rattle.text.specs.Quoted.{quoted}
 use Rattle.text.specs.Lines.{field, event_text, heading_text, WordsPlain, LinesPlain, OlderPlain, LinesTogether, Ended, LinesEnd, LinesFit, LineReadBack, LineRefuses, LineStays}
@@ -192,5 +193,5 @@ pub line_stays : LineStays
 unfolding write_line_of
 line_stays e kind account buffer h k =
     let line = line_as (eqb kind 18) account e in
-    cond-stays (ltb (length buffer) longest_line) 4 buffer (wrote_over line buffer)
+    cond-stays (ltb (length buffer) longest_line) NoRoom buffer (wrote_over line buffer)
     (λ b. wrote-stays line buffer (le_trans (lines_fit (eqb kind 18) account e h k) (ltb-false (length buffer) longest_line b)))

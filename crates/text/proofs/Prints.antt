@@ -12,8 +12,9 @@ use lib.Dec.{leb, ltb}
 use lib.ListN.{length, take, drop, length-drop}
 use lib.Seq.{drop-drop, take_all, length-take-le}
 use Rattle.register.specs.declared.Register.{Register}
-use Rattle.register.specs.declared.Reply.{Reply}
-use Rattle.register.specs.declared.Reply.TheVariants.{Refused, Taken}
+use Rattle.std.specs.Prelude.{Ok, Err}
+use Rattle.refusal.specs.Numbers.{number_of}
+use Rattle.register.specs.Call.{Reply}
 use Rattle.register.specs.declared.runs.Passed.{Passed}
 use Rattle.register.specs.Run.{length_at, passed_of}
 use Rattle.register.specs.RunCalls.{refusals}
@@ -50,8 +51,8 @@ told_more met refused turn turns =
 
 -- a message that is refused counts among the refused
 passed-refused : (reply : Reply) (whole : ℕ) → (passed_of reply whole).refused ≡ refusals reply
-passed-refused (Taken consumed written) whole = refl
-passed-refused (Refused n) whole = go (leb n 2)
+passed-refused (Ok taken) whole = refl
+passed-refused (Err n) whole = go (leb (number_of n) 2)
   where
     go : (b : Bool) → (cond {A = Passed} b (record { refused = 1; consumed = 0; written = 0; stops = true }) (record { refused = 1; consumed = whole; written = 0; stops = false })).refused ≡ 1
     go true = refl

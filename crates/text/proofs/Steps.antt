@@ -5,25 +5,22 @@ use Prim.Native.Nat.{ℕ, ◌+◌, ◌-◌, ◌≤◌, ◌<◌}
 use native.Mathlib.Omega.{arith}
 use mathlib.Core.Path.{◌≡◌, refl, ◌∙◌}
 use mathlib.Core.Bool.{Bool, true, false, cond}
-use mathlib.Core.List.{List, []}
+use mathlib.Core.List.{List}
 use borrow.Author.Tests.{lt-ltb, le-ltb}
 use borrow.Author.Rules.{part_to_end}
-use lib.ListN.{length, take, drop, length-drop}
-use Rattle.layout.specs.Number.{number_at}
+use lib.ListN.{length, get_or, take, drop, length-drop}
 use Rattle.layout.specs.Fields.{row_of_kind, whole_of}
-use Rattle.message.specs.declared.Reading.{Reading}
 use Rattle.message.specs.Bytes.{messages}
-use Rattle.message.specs.Answers.{read_of}
-use Rattle.register.specs.declared.Reply.{Reply}
+use Rattle.register.specs.declared.Register.{Register}
+use Rattle.register.specs.Call.{Reply}
 use Rattle.register.specs.declared.runs.Passed.{Passed}
 use Rattle.register.specs.Run.{passed_of}
 use Rattle.text.specs.declared.program.Served.{Served}
-use Rattle.text.specs.declared.turns.Turned.{Turned}
-use Rattle.text.specs.Output.{read_turn, turn_at}
+use Rattle.text.specs.Output.{turn_at}
 use Rattle.text.specs.Program.{longest_text, next_turn, next_passed, start_after, counted, serve_text, serve_of, Serves}
-use Rattle.text.specs.Turned.{Turns}
-use Rattle.text.proofs.Texts.{put-nothing, put-room}
-use Rattle.text.proofs.Pieces.{put-length}
+use Rattle.text.specs.Text.{Put}
+use Rattle.register.proofs.Whole.{first_byte}
+use Rattle.text.proofs.Pieces.{put-length, put-nothing}
 use Rattle.text.proofs.Turning.{Moves, turn-moves}
 
 module _ (s : Served) (input : List ℕ) where
@@ -44,20 +41,13 @@ module _ (s : Served) (input : List ℕ) where
       go true q = h
       go false q = omega (arith, moved.forward q)
 
-  -- the rest of the input is lent to the reader,
-  pub turn_is : (reading : Reading) (l l₁ : List ℕ) (r : Turned) → reading ≡ read_of (take (length input - s.from) (drop s.from input))
-      → Turns (read_turn s.register reading) l r l₁ → Turns (next_turn s input) l r l₁
-  unfolding turn_at
-  turn_is reading l l₁ r e t = rw (e, part_to_end input s.from) at t
-
-  -- and the length of its message is read from it
-  pub passed_is : (kind whole : ℕ) (reply : Reply) (passed : Passed)
-      → kind ≡ number_at (take (length input - s.from) (drop s.from input)) 0 1
-      → whole ≡ whole_of (row_of_kind messages kind)
-      → reply ≡ (next_turn s input).reply
+  -- the rest of the input is lent to the turn, and the length of its message goes by its first byte
+  pub passed_is : (whole : ℕ) (reply : Reply) (passed : Passed)
+      → whole ≡ whole_of (row_of_kind messages (get_or (take (length input - s.from) (drop s.from input)) 0 0))
+      → reply ≡ (turn_at s.register (take (length input - s.from) (drop s.from input))).reply
       → passed ≡ passed_of reply whole
       → passed ≡ next_passed s input
-  passed_is kind whole reply passed k w a p = p ∙ rw (w, k, a, part_to_end input s.from)
+  passed_is whole reply passed w a p = p ∙ rw (w, a, part_to_end input s.from, first_byte (drop s.from input))
 
   -- no message
   pub serves-none : (l : List ℕ) → length input ≤ s.from
@@ -65,19 +55,23 @@ module _ (s : Served) (input : List ℕ) where
   unfolding serve_text serve_of
   serves-none l h =
       let t = le-ltb s.from (length input) h in
-      record { state = rw t; text = rw t (put-room [] 0 0 longest_text 0 l l (omega arith) (put-nothing 0 l)); further = λ k. absurd (omega arith) }
+      record { state = rw t; text = rw t (put-nothing longest_text l); further = λ k. absurd (omega arith) }
 
   -- one message
-  pub serves-one : (turned : Turned) (passed : Passed) (start met refused : ℕ) (l l₁ : List ℕ) → s.from < length input → Turns (next_turn s input) l turned l₁
+  pub serves-one : (register : Register) (passed : Passed) (start met refused written : ℕ) (l l₁ : List ℕ) → s.from < length input
+      → register ≡ (turn_at s.register (take (length input - s.from) (drop s.from input))).register
+      → Put (turn_at s.register (take (length input - s.from) (drop s.from input))).text 0 longest_text l written l₁
       → passed ≡ next_passed s input → start ≡ start_after s.from passed (length input)
       → met ≡ counted s.met 1 → refused ≡ counted s.refused passed.refused
-      → Serves s input l (record { register = turned.register; from = start; met = met; refused = refused; written = turned.written }) l₁
+      → Serves s input l (record { register = register; from = start; met = met; refused = refused; written = written }) l₁
   unfolding serve_text serve_of
-  serves-one turned passed start met refused l l₁ h turns p f m k =
+  serves-one register passed start met refused written l l₁ h r put p f m k =
       let t = lt-ltb s.from (length input) h in
-      let w = put-length (next_turn s input).text longest_text turned.written l l₁ turns.text in
+      let rest = part_to_end input s.from in
+      let text : Put (next_turn s input).text 0 longest_text l written l₁ = rw rest at put in
+      let w = put-length (next_turn s input).text longest_text written l l₁ text in
       record {
-        state = rw (t, turns.register, f, p, m, k, p, w);
-        text = rw t turns.text;
+        state = rw (t, r, rest, f, p, m, k, p, w);
+        text = rw t text;
         further = λ x. rw (f, p) (further x);
       }

@@ -9,13 +9,15 @@ use lib.ListN.{length, drop}
 use lib.Seq.{take-append_seam}
 use Rattle.filing.specs.declared.Entries.{Entries}
 use Rattle.message.specs.declared.Message.{Message}
-use Rattle.message.specs.declared.Reading.TheVariants as Reading'
+use Rattle.std.specs.Prelude.{Ok, Err}
+use Rattle.refusal.specs.declared.Refusal.{Refusal}
+use Rattle.refusal.specs.Numbers.{number_of}
 use Rattle.message.specs.Bytes.{heading_of}
 use Rattle.message.specs.Answers.{read_of}
 use Rattle.entry.specs.Bytes.{bytes_of_entries, list_of}
 use Rattle.register.specs.declared.Register.{Register}
-use Rattle.register.specs.declared.Sent.{Sent}
-use Rattle.register.specs.Call.{refused_with, wrote_of, after_message, called_by}
+use Rattle.register.specs.Register.{Sent}
+use Rattle.register.specs.Call.{written_of, refused_with, wrote_of, after_message, called_by}
 use Rattle.register.specs.Refusals.{account_in}
 use Rattle.register.specs.First.{sent_of, call_of}
 use Rattle.register.proofs.ReadAs.{account-read}
@@ -24,23 +26,23 @@ use Rattle.text.specs.OutputCalls.{IsCall, TurnIsCall}
 use Rattle.text.proofs.Turning.{taken_turn, taken_sent, Turning, unread, unsent, taken, turning}
 
 module _ (r : Register) (bytes buffer : List ℕ) where
-  pub call-unread : (n : ℕ) → read_of bytes ≡ Reading'.Refused n → call_of r bytes buffer ≡ refused_with r buffer n
+  pub call-unread : (n : Refusal) → read_of bytes ≡ Err n → call_of r bytes buffer ≡ refused_with r buffer n
   unfolding called_by
   call-unread n q = rw q
 
   -- a message that is sent and gives this
-  pub call-sent : 323 ≤ length buffer → (m : Message) (consumed : ℕ) (sent : Sent) → read_of bytes ≡ Reading'.Message m consumed → sent_of r m ≡ sent
+  pub call-sent : 323 ≤ length buffer → (m : Message) (consumed : ℕ) (sent : Sent) → read_of bytes ≡ Ok (m, consumed) → sent_of r m ≡ sent
       → call_of r bytes buffer ≡ wrote_of r buffer (heading_of m).account consumed sent
   unfolding called_by after_message
   call-sent room m consumed sent q e = rw (q, le-ltb (length buffer) 323 room, e)
 
-  refused-call : (n : ℕ) → IsCall bytes (refused_turn r n) (refused_with r buffer n)
+  refused-call : (n : Refusal) → IsCall bytes (refused_turn r n) (refused_with r buffer n)
   refused-call n =
       record {
         register = refl;
         refusal = refl;
         consumed = refl;
-        refused = λ number e. ap refused_line (let z : n ≡ number = cc in z);
+        refused = λ refusal e. ap (λ (x : Refusal). refused_line (number_of x)) (let z : n ≡ refusal = cc in z);
         entries = [];
         taken = λ consumed written e. let z : ◌≡◌ {A = ℕ} 0 1 = cc in absurd (omega arith);
       }
@@ -57,7 +59,7 @@ module _ (r : Register) (bytes buffer : List ℕ) where
         entries = list_of entries;
         taken =
             λ consumed' written e.
-            let n : length bytes' ≡ written = cc in
+            let n : length bytes' ≡ written = ap written_of e in
             (rw (← n, ← same) (take-append_seam bytes' (drop (length bytes') buffer)), rw same);
       }
 

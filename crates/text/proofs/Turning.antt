@@ -12,18 +12,16 @@ use Rattle.rule.specs.Rule.{Rule}
 use Rattle.events.specs.declared.Event.{Event}
 use Rattle.events.specs.declared.State.{State}
 use Rattle.filing.specs.declared.Entries.{Entries}
-use Rattle.account.specs.declared.Answer.TheVariants as Answer'
+use Rattle.std.specs.Prelude.{Result, Ok, Err}
+use Rattle.refusal.specs.declared.Refusal.{Refusal}
+use Rattle.refusal.specs.Numbers.{number_of}
 use Rattle.message.specs.declared.Message.{Message}
-use Rattle.message.specs.declared.Reading.{Reading}
-use Rattle.message.specs.declared.Reading.TheVariants as Reading'
 use Rattle.message.specs.Bytes.{heading_of}
 use Rattle.message.specs.Answers.{read_of}
 use Rattle.entry.specs.Bytes.{list_of}
 use Rattle.register.specs.declared.Register.{Register}
-use Rattle.register.specs.declared.Sent.{Sent}
-use Rattle.register.specs.declared.Reply.TheVariants.{Refused, Taken}
 use Rattle.register.specs.declared.runs.Passed.{Passed}
-use Rattle.register.specs.Register.{not_sent}
+use Rattle.register.specs.Register.{Sent, not_sent}
 use Rattle.register.specs.First.{sent_of}
 use Rattle.register.specs.Run.{length_at, passed_of}
 use Rattle.register.proofs.Whole.{some_bytes}
@@ -36,34 +34,34 @@ use Rattle.text.specs.Output.{Turn, refused_turn, sent_turn, read_turn, turn_at,
 
 -- a message that is taken, with these entries
 abbrev pub taken_turn : (account consumed : ℕ) → Register → Entries → Turn
-taken_turn i consumed next entries = record { register = next; reply = Taken consumed 0; text = lines_of i (list_of entries) }
+taken_turn i consumed next entries = record { register = next; reply = Ok (record { consumed = consumed; written = 0 }); text = lines_of i (list_of entries) }
 
 abbrev pub taken_sent : Register → Entries → Sent
-taken_sent next entries = record { register = next; entries = entries; answer = Answer'.Taken }
+taken_sent next entries = record { register = next; answer = Ok entries }
 
 module _ (r : Register) (bytes : List ℕ) where
   pub data Turning : Turn → Type 0 where
-    unread : (n : ℕ) → read_of bytes ≡ Reading'.Refused n → Turning (refused_turn r n)
-    unsent : (m : Message) (consumed n : ℕ) → read_of bytes ≡ Reading'.Message m consumed → 3 ≤ n → sent_of r m ≡ not_sent r (Answer'.Refused n)
+    unread : (n : Refusal) → read_of bytes ≡ Err n → Turning (refused_turn r n)
+    unsent : (m : Message) (consumed : ℕ) (n : Refusal) → read_of bytes ≡ Ok (m, consumed) → 3 ≤ number_of n → sent_of r m ≡ not_sent r n
         → Turning (refused_turn r n)
-    taken : (m : Message) (consumed : ℕ) (next : Register) (entries : Entries) → read_of bytes ≡ Reading'.Message m consumed → sent_of r m ≡ taken_sent next entries
+    taken : (m : Message) (consumed : ℕ) (next : Register) (entries : Entries) → read_of bytes ≡ Ok (m, consumed) → sent_of r m ≡ taken_sent next entries
         → Turning (taken_turn (heading_of m).account consumed next entries)
 
   pub turning : Turning (turn_at r bytes)
   unfolding turn_at
   turning = by-reading (read_of bytes) refl
     where
-      by-sent : {R : Rule State Event ℕ} (m : Message) (consumed : ℕ) → read_of bytes ≡ Reading'.Message m consumed → {sent : Sent} → sent_of r m ≡ sent → Sending R r m sent
+      by-sent : {R : Rule State Event ℕ} (m : Message) (consumed : ℕ) → read_of bytes ≡ Ok (m, consumed) → {sent : Sent} → sent_of r m ≡ sent → Sending R r m sent
           → Turning (sent_turn (heading_of m).account consumed sent)
       by-sent m consumed q e (send.refused n high) = unsent m consumed n q high e
       by-sent m consumed q e (send.taken free) = taken m consumed _ _ q e
 
-      by-reading : (x : Reading) → read_of bytes ≡ x → Turning (read_turn r x)
-      by-reading (Reading'.Refused n) q = unread n q
-      by-reading (Reading'.Message m consumed) q = by-sent m consumed q refl (sending _ r m)
+      by-reading : (x : Result (Message × ℕ) Refusal) → read_of bytes ≡ x → Turning (read_turn r x)
+      by-reading (Err n) q = unread n q
+      by-reading (Ok (m, consumed)) q = by-sent m consumed q refl (sending _ r m)
 
   -- a message that was read stands whole at the beginning of the bytes
-  pub stands_read : (m : Message) (consumed : ℕ) → read_of bytes ≡ Reading'.Message m consumed → (consumed ≡ length_at bytes) × Stands bytes
+  pub stands_read : (m : Message) (consumed : ℕ) → read_of bytes ≡ Ok (m, consumed) → (consumed ≡ length_at bytes) × Stands bytes
   stands_read m consumed q = rw q at (reading-tells bytes)
 
   -- what the message does to the lengths
@@ -72,7 +70,7 @@ module _ (r : Register) (bytes : List ℕ) where
     pub within : passed.consumed ≤ length bytes
     pub forward : passed.stops ≡ false → 0 < passed.consumed
 
-  refused-moves : (n : ℕ) → Refusable bytes n → Moves (passed_of (Refused n) (length_at bytes))
+  refused-moves : (n : Refusal) → Refusable bytes (number_of n) → Moves (passed_of (Err n) (length_at bytes))
   refused-moves n (inl which) =
       rw (passed-stops n (length_at bytes) which) (record { once = omega arith; within = omega arith; forward = λ z. absurd (true≢false z) })
   refused-moves n (inr (high, stands)) =

@@ -1,5 +1,4 @@
 pub mod Text
-pub mod Words
 pub mod Decimal
 pub mod Quoted
 pub mod Vectors

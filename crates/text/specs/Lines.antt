@@ -9,7 +9,7 @@ use Rattle.events.specs.declared.Event.{Event}
 use Rattle.events.specs.declared.Event.TheVariants.{Open, Withdraw, Deposit, Close}
 use Rattle.filing.specs.declared.Told.{Told}
 use Rattle.filing.specs.declared.Entry.{Entry}
-use Rattle.layout.specs.Answers.{said_of_writing, Wrote, Stays}
+use Rattle.layout.specs.Writes.{said_of_writing, Wrote, Stays}
 use Rattle.entry.specs.Inverse.{reason_in}
 use Rattle.entry.specs.Plain.{of_each_kind}
 use Rattle.entry.specs.Forms.{together}

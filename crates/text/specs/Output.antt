@@ -1,20 +1,18 @@
 -- The whole text of an input (section 12 of docs/REGISTER.md): the first line, the text of each message that is met, the last line. It goes by values: a
 -- message is read and sent, and its entries are printed; no buffer plays a part.
 -- Assumes nothing.
-use Rattle.std.specs.Prelude.{ℕ, zero, suc, ◌+◌, cond, List, [], ◌∷◌, ◌++◌, eqb, ltb, length, drop}
+use Rattle.std.specs.Prelude.{ℕ, zero, suc, ◌+◌, cond, List, [], ◌∷◌, ◌++◌, eqb, ltb, length, drop, Result, Ok, Err}
+use Rattle.refusal.specs.declared.Refusal.{Refusal}
+use Rattle.refusal.specs.Numbers.{number_of}
 use Rattle.filing.specs.declared.Entries.{Entries}
-use Rattle.account.specs.declared.Answer.{Answer}
-use Rattle.account.specs.declared.Answer.TheVariants as Answer'
-use Rattle.message.specs.declared.Reading.{Reading}
-use Rattle.message.specs.declared.Reading.TheVariants as Reading'
+use Rattle.message.specs.declared.Message.{Message}
 use Rattle.message.specs.Bytes.{heading_of}
 use Rattle.message.specs.Answers.{read_of}
 use Rattle.entry.specs.Bytes.{list_of}
 use Rattle.register.specs.declared.Register.{Register}
-use Rattle.register.specs.declared.Sent.{Sent}
-use Rattle.register.specs.declared.Reply.{Reply}
-use Rattle.register.specs.declared.Reply.TheVariants.{Refused, Taken}
 use Rattle.register.specs.declared.runs.Passed.{Passed}
+use Rattle.register.specs.Register.{Sent}
+use Rattle.register.specs.Call.{Reply}
 use Rattle.register.specs.First.{fresh_register, sent_of}
 use Rattle.register.specs.Run.{length_at, passed_of}
 use Rattle.register.specs.RunCalls.{refusals}
@@ -47,21 +45,21 @@ pub record Turn : Type 0 where
   pub text : List ℕ
 
 -- a refusal: its line
-abbrev pub refused_turn : Register → (number : ℕ) → Turn
-refused_turn r n = record { register = r; reply = Refused n; text = refused_line n }
+abbrev pub refused_turn : Register → Refusal → Turn
+refused_turn r refusal = record { register = r; reply = Err refusal; text = refused_line (number_of refusal) }
 
 -- what sending it to an account gave: the refusal, or the lines of the entries
-abbrev pub sent_as : (account consumed : ℕ) → Answer → Register → Entries → Turn
-sent_as i consumed (Answer'.Refused n) next entries = refused_turn next n
-sent_as i consumed Answer'.Taken next entries = record { register = next; reply = Taken consumed 0; text = lines_of i (list_of entries) }
+abbrev pub sent_as : (account consumed : ℕ) → Result Entries Refusal → Register → Turn
+sent_as i consumed (Err refusal) next = refused_turn next refusal
+sent_as i consumed (Ok entries) next = record { register = next; reply = Ok (record { consumed = consumed; written = 0 }); text = lines_of i (list_of entries) }
 
 abbrev pub sent_turn : (account consumed : ℕ) → Sent → Turn
-sent_turn i consumed sent = sent_as i consumed sent.answer sent.register sent.entries
+sent_turn i consumed sent = sent_as i consumed sent.answer sent.register
 
 -- what was read: the reader's refusal, or a message, which is sent
-abbrev pub read_turn : Register → Reading → Turn
-read_turn r (Reading'.Refused n) = refused_turn r n
-read_turn r (Reading'.Message m consumed) = sent_turn (heading_of m).account consumed (sent_of r m)
+abbrev pub read_turn : Register → Result (Message × ℕ) Refusal → Turn
+read_turn r (Err refusal) = refused_turn r refusal
+read_turn r (Ok (m, consumed)) = sent_turn (heading_of m).account consumed (sent_of r m)
 
 unfoldable pub turn_at : Register → (bytes : List ℕ) → Turn
 turn_at r bytes = read_turn r (read_of bytes)

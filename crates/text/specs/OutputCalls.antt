@@ -2,15 +2,15 @@
 -- calls of the run write, read from the bytes, and the run's own numbers; and the text of one message on any register, by its call on bytes. Nothing here
 -- goes by how the text is defined.
 -- Assumes nothing.
-use Rattle.std.specs.Prelude.{ℕ, ◌*◌, ◌≤◌, ◌<◌, ◌≡◌, List, [], ◌∷◌, ◌++◌, length, take}
+use Rattle.std.specs.Prelude.{ℕ, ◌*◌, ◌≤◌, ◌<◌, ◌≡◌, Ok, Err, List, [], ◌∷◌, ◌++◌, length, take}
+use Rattle.refusal.specs.declared.Refusal.{Refusal}
+use Rattle.refusal.specs.Numbers.{number_of}
 use Rattle.filing.specs.declared.Entry.{Entry}
 use Rattle.layout.specs.Number.{AreBytes}
-use Rattle.entry.specs.declared.EntryReading.TheVariants.{Found}
 use Rattle.entry.specs.Bytes.{bytes_of_entry, bytes_of_entries}
-use Rattle.entry.specs.Answers.{read_of}
+use Rattle.entry.specs.Answers.{read_of, found_as}
 use Rattle.register.specs.declared.Register.{Register}
-use Rattle.register.specs.declared.Reply.TheVariants.{Refused, Taken}
-use Rattle.register.specs.Call.{Result, refusal_of, consumed_of}
+use Rattle.register.specs.Call.{Called, refusal_of, consumed_of}
 use Rattle.register.specs.Refusals.{account_in}
 use Rattle.register.specs.Sequence.{Exchange}
 use Rattle.register.specs.First.{fresh_register, call_of, exchanges, run_of, CallsOfRun}
@@ -28,13 +28,13 @@ OtherLinesPlain = (number met refused : ℕ) → OtherLines number met refused
 
 -- a message on any register, whether an input can lead to it or not: the register that follows its call on bytes, the call's own refusal or the length of
 -- the message, and the line of that refusal or of each entry whose bytes the call wrote
-pub record IsCall (bytes : List ℕ) (turn : Turn) (called : Result) : Type 0 where
+pub record IsCall (bytes : List ℕ) (turn : Turn) (called : Called) : Type 0 where
   pub register : turn.register ≡ called.register
   pub refusal : refusal_of turn.reply ≡ refusal_of called.reply
   pub consumed : consumed_of turn.reply ≡ consumed_of called.reply
-  pub refused : (number : ℕ) → called.reply ≡ Refused number → turn.text ≡ refused_line number
+  pub refused : (refusal : Refusal) → called.reply ≡ Err refusal → turn.text ≡ refused_line (number_of refusal)
   pub entries : List Entry
-  pub taken : (consumed written : ℕ) → called.reply ≡ Taken consumed written
+  pub taken : (consumed written : ℕ) → called.reply ≡ Ok (record { consumed = consumed; written = written })
       → (take written called.buffer ≡ bytes_of_entries (account_in bytes) entries) × (turn.text ≡ lines_of (account_in bytes) entries)
 
 -- with any buffer that is not too short
@@ -44,13 +44,13 @@ TurnIsCall = (r : Register) (bytes buffer : List ℕ) → 323 ≤ length buffer 
 -- bytes that are entries, one after the other and nothing else, each the one that is read there, and their lines
 pub data EntryLines : (bytes text : List ℕ) → Type 0 where
   none : EntryLines [] []
-  more : {bytes text : List ℕ} (account : ℕ) (e : Entry) (kind whole : ℕ) → read_of (bytes_of_entry account e ++ bytes) ≡ Found e kind account whole
+  more : {bytes text : List ℕ} (account : ℕ) (e : Entry) (kind whole : ℕ) → read_of (bytes_of_entry account e ++ bytes) ≡ found_as e kind account whole
       → EntryLines bytes text → EntryLines (bytes_of_entry account e ++ bytes) (line_of account e ++ text)
 
 -- the text of a call that is seen
 pub data Says (x : Exchange) : (text : List ℕ) → Type 0 where
-  refused : (number : ℕ) → x.reply ≡ Refused number → Says x (quoted "refused " ++ (decimal number ++ quoted "\n"))
-  taken : {text : List ℕ} (consumed written : ℕ) → x.reply ≡ Taken consumed written → EntryLines (take written x.buffer) text → Says x text
+  refused : (refusal : Refusal) → x.reply ≡ Err refusal → Says x (quoted "refused " ++ (decimal (number_of refusal) ++ quoted "\n"))
+  taken : {text : List ℕ} (consumed written : ℕ) → x.reply ≡ Ok (record { consumed = consumed; written = written }) → EntryLines (take written x.buffer) text → Says x text
 
 -- of all of them, one after the other
 pub data Said : List Exchange → (text : List ℕ) → Type 0 where

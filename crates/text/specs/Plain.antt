@@ -1,10 +1,10 @@
 -- Digits, a line in a buffer, and the program's steps on any input, said a second time (clauses 12.1 to 12.5 of docs/REGISTER.md): a decimal digit by digit from its end, what the
 -- writer of a line gives with each length of buffer, what is printed at the beginning, for a message and at the end, and what the contracts of the steps say of buffers.
 -- Assumes nothing.
-use Rattle.std.specs.Prelude.{ℕ, ◌+◌, ◌*◌, ◌-◌, ◌/◌, ◌%◌, ◌^◌, ◌≤◌, ◌<◌, ◌≡◌, true, cond, List, [], ◌∷◌, ◌++◌, length, drop}
+use Rattle.std.specs.Prelude.{ℕ, ◌+◌, ◌*◌, ◌-◌, ◌/◌, ◌%◌, ◌^◌, ◌≤◌, ◌<◌, ◌≡◌, true, cond, List, [], ◌∷◌, ◌++◌, length, drop, Ok, Err}
 use Rattle.std.proofs.lemmas.List.Edits.{sets}
 use Rattle.filing.specs.declared.Entry.{Entry}
-use Rattle.layout.specs.declared.Writing.TheVariants.{Written, Refused}
+use Rattle.refusal.specs.declared.Refusal.TheVariants.{NoRoom}
 use Rattle.register.specs.Run.{length_at, passed_of}
 use Rattle.register.specs.First.{fresh_register}
 use Rattle.text.specs.declared.program.Served.{Served}
@@ -26,11 +26,11 @@ pub record ValuePlain (sofar digit : ℕ) (digits : List ℕ) : Type 0 where
 
 -- the writer of a line: 4 with fewer than 72 bytes; else the line, of kind 18 without a reason, its length, and the rest of the buffer as it was
 pub record LineWritten (e : Entry) (kind account : ℕ) (buffer : List ℕ) : Type 0 where
-  pub short : length buffer < 72 → write_line_of e kind account buffer ≡ record { answer = Refused 4; buffer = buffer }
+  pub short : length buffer < 72 → write_line_of e kind account buffer ≡ record { answer = Err NoRoom; buffer = buffer }
   pub enough : 72 ≤ length buffer → (kind ≡ 18 → ⊥)
-      → write_line_of e kind account buffer ≡ record { answer = Written (length (line_of account e)); buffer = line_of account e ++ drop (length (line_of account e)) buffer }
+      → write_line_of e kind account buffer ≡ record { answer = Ok (length (line_of account e)); buffer = line_of account e ++ drop (length (line_of account e)) buffer }
   pub older : 72 ≤ length buffer → kind ≡ 18
-      → write_line_of e kind account buffer ≡ record { answer = Written (length (line_as true account e)); buffer = line_as true account e ++ drop (length (line_as true account e)) buffer }
+      → write_line_of e kind account buffer ≡ record { answer = Ok (length (line_as true account e)); buffer = line_as true account e ++ drop (length (line_as true account e)) buffer }
 
 -- the beginning, one message, and the end
 pub record StepsPlain (s : Served) (input : List ℕ) : Type 0 where

@@ -1,6 +1,6 @@
 -- An entry's line of text, byte by byte (docs/REGISTER.md, 12.4 and 12.5).
 -- Assumes nothing.
-use Rattle.std.specs.Prelude.{ℕ, zero, suc, ◌+◌, ◌/◌, ◌%◌, ◌≤◌, ◌≡◌, Bool, false, cond, List, [], ◌∷◌, ◌++◌, ltb, eqb, length}
+use Rattle.std.specs.Prelude.{ℕ, zero, suc, ◌+◌, ◌/◌, ◌%◌, ◌≤◌, ◌≡◌, Bool, false, cond, List, [], ◌∷◌, ◌++◌, ltb, eqb, length, take}
 use Rattle.std.proofs.lemmas.List.Edits.{sets}
 use Rattle.events.specs.declared.Event.{Event}
 use Rattle.events.specs.Kinds.{event_kind, amount_of}
@@ -10,7 +10,8 @@ use Rattle.filing.specs.declared.Verdict.TheVariants.{Accepted, Rejected, Held}
 use Rattle.filing.specs.declared.Told.{Told}
 use Rattle.filing.specs.declared.Told.TheVariants.{Voted, Noted, Applied, Dropped}
 use Rattle.filing.specs.declared.Entry.{Entry}
-use Rattle.layout.specs.Answers.{Wrote, wrote_over, refused_with}
+use Rattle.refusal.specs.declared.Refusal.TheVariants.{NoRoom}
+use Rattle.layout.specs.Writes.{Wrote, wrote_over, refused_with}
 
 -- the digits of a number, highest first, at most as many as `places` says
 unfoldable pub decimal_in : (places number : ℕ) → List ℕ
@@ -81,20 +82,20 @@ lines_of account (e ∷ es) = line_of account e ++ lines_of account es
 abbrev pub longest_line : ℕ
 longest_line = 72
 
+-- what a line keeps of text that grows: no more than the longest has
+abbrev pub kept : (text : List ℕ) → List ℕ
+kept text = take longest_line text
+
 -- a rejection in kind 18 has no reason to show (9.1)
 abbrev pub is_older : (kind : ℕ) → Bool
 is_older kind = eqb kind 18
 
 -- the writer of the line of an entry that stands in that kind: 4 where the buffer is too short for the longest
 unfoldable pub write_line_of : Entry → (kind account : ℕ) (buffer : List ℕ) → Wrote
-write_line_of e kind account buffer = cond (ltb (length buffer) longest_line) (refused_with 4 buffer) (wrote_over (line_as (is_older kind) account e) buffer)
+write_line_of e kind account buffer = cond (ltb (length buffer) longest_line) (refused_with NoRoom buffer) (wrote_over (line_as (is_older kind) account e) buffer)
 
 -- text that was stored from `at` on, of at most so many bytes, and the place after it
 pub record Put (text : List ℕ) (at most : ℕ) (before : List ℕ) (next : ℕ) (after : List ℕ) : Type 0 where
   pub place : next ≡ at + length text
   pub within : next ≤ at + most
   pub stored : after ≡ sets before at text
-
--- where text may end: far behind any place that is used, and there for the checker's sums alone
-abbrev pub farthest : ℕ
-farthest = 4_096

@@ -1,12 +1,15 @@
--- What the functions for one message give (contracts of private functions; the law does not need them): a turn, with its text at the beginning of a buffer.
+-- What a message that was sent comes to, by its refusal or by its entries, their account and the message's length (a contract of a private function; the law
+-- does not need it).
 -- Assumes nothing.
-use Rattle.std.specs.Prelude.{ℕ, ◌≡◌, List}
-use Rattle.text.specs.declared.turns.Turned.{Turned}
-use Rattle.text.specs.Text.{Put}
-use Rattle.text.specs.Output.{Turn}
-use Rattle.text.specs.Program.{longest_text}
+use Rattle.std.specs.Prelude.{ℕ, ◌≡◌, Result, Ok, Err}
+use Rattle.refusal.specs.declared.Refusal.{Refusal}
+use Rattle.refusal.specs.Numbers.{number_of}
+use Rattle.filing.specs.declared.Entries.{Entries}
+use Rattle.entry.specs.Bytes.{list_of}
+use Rattle.text.specs.Text.{lines_of}
+use Rattle.text.specs.Output.{refused_line, Turn}
 
-pub record Turns (turn : Turn) (before : List ℕ) (r : Turned) (after : List ℕ) : Type 0 where
-  pub register : r.register ≡ turn.register
-  pub reply : r.reply ≡ turn.reply
-  pub text : Put turn.text 0 longest_text before r.written after
+abbrev pub Sends : Result (Entries × ℕ × ℕ) Refusal → Turn → Type 0
+Sends (Err refusal) turn = (turn.reply ≡ Err refusal) × (turn.text ≡ refused_line (number_of refusal))
+Sends (Ok (entries, account, consumed)) turn =
+    (turn.reply ≡ Ok (record { consumed = consumed; written = 0 })) × (turn.text ≡ lines_of account (list_of entries))

@@ -5,7 +5,7 @@ use Rattle.std.specs.Prelude.{ℕ, ◌-◌, ◌≡◌, true, List, [], ◌∷◌
 use Prim.Native.String.{String}
 use Rattle.std.proofs.Math.Option.{none, some}
 use Rattle.filing.specs.declared.Told.TheVariants.{Noted}
-use Rattle.layout.specs.Answers.{SaidOfWriting, said_of_writing}
+use Rattle.layout.specs.Writes.{SaidOfWriting, said_of_writing}
 use Rattle.entry.specs.Vectors.{Vector, table, older_table, entry}
 use Rattle.text.specs.Text.{line_as, line_of, write_line_of}
 use Rattle.text.specs.Quoted.{quoted}

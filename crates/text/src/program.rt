@@ -4,6 +4,7 @@ ghost use Rattle.std.specs.Prelude.{◌≡◌, ◌+◌, ◌≤◌};
 ghost use Rattle.text.specs.Text.{Put};
 ghost use Rattle.text.specs.Program.{begin_text, begin_of, start_after, counted, Serves, finish_text};
 
+use crate::line::Line;
 use crate::{line, turns};
 use filing::Entries;
 use register::{Passed, Register};
@@ -25,55 +26,44 @@ pub struct Served {
 }
 
 // The beginning: the first line, and one more where the input is too long, of which nothing is served.
+#[tactic(auto, using(crate::proofs::Pieces::put_stored), unfolding(crate::specs::Output::first_line, crate::specs::Output::too_long, crate::specs::Quoted::quoted))]
 pub fn begin(input: &[u8], out: &mut [u8]) -> Served
     ensures { (result ≡ begin_of input.now) × (Put (begin_text input.now) 0 20 out.old result.written out.new) }
 {
-    let first = line::put_letters(out, 0, b"register 1\n");
-    if LONGEST_INPUT < input.len() {
-        let written = line::put_letters(out, first, b"too long\n");
-        return Served {
-            register: Register::fresh(),
-            from: input.len(),
-            met: 0,
-            refused: 0,
-            written,
-        };
-    }
+    let (text, from): (&[u8], usize) = if LONGEST_INPUT < input.len() {
+        (b"register 1\ntoo long\n", input.len())
+    } else {
+        (b"register 1\n", 0)
+    };
+    line::store(out, 0, text);
     Served {
         register: Register::fresh(),
-        from: 0,
+        from,
         met: 0,
         refused: 0,
-        written: first,
+        written: text.len(),
     }
 }
 
 // Sends the next message to the register: its text, and what has been served then. Where there is none nothing changes.
-pub fn serve(served: Served, input: &[u8], out: &mut [u8]) -> Served
+pub fn serve(mut served: Served, input: &[u8], out: &mut [u8]) -> Served
     ensures { Serves served input.now out.old result out.new }
 {
-    let from = served.from;
-    let before = served.register;
-    if input.len() <= from {
+    if input.len() <= served.from {
         return Served {
-            register: before,
-            from,
-            met: served.met,
-            refused: served.refused,
             written: 0,
+            ..served
         };
     }
-    let rest = &input[from..];
-    let turned = turns::read_turn(before, message::read_message(rest), out);
-    let following = turned.register;
-    let reply = turned.reply;
-    let passed = register::passed_by(reply, message::whole_length(layout::number1(rest, 0)));
+    let rest = &input[served.from..];
+    let turned = turns::turn(&mut served.register, rest, out);
+    let passed = register::passed_by(turned.reply, message::whole_length(rest[0]));
     Served {
-        register: following,
-        from: start_after(from, passed, input.len()),
+        from: start_after(served.from, passed, input.len()),
         met: counted_by(served.met, 1),
         refused: counted_by(served.refused, passed.refused),
         written: turned.written,
+        ..served
     }
 }
 
@@ -84,9 +74,13 @@ pub fn finish(served: Served, input: &[u8], out: &mut [u8]) -> usize
     if input.len() > LONGEST_INPUT {
         return 0;
     }
-    let met = line::put_named(out, b"end", served.met);
-    let refused = line::put_number(out, met, served.refused);
-    line::end_line(out, refused)
+    let mut line = Line::new();
+    line.put(b"end");
+    line.put_number(served.met);
+    line.put_number(served.refused);
+    line.put(b"\n");
+    line::store(out, 0, line.as_slice());
+    line.len()
 }
 
 // Where the next message starts; the end of the input where there is none.

@@ -1,6 +1,6 @@
 -- What the account's own helpers cite, applied to the first panel once: the definitions are over any rule of the events.
 -- Assumes nothing.
-use Rattle.std.specs.Prelude.{ℕ, Bool, List, Result}
+use Rattle.std.specs.Prelude.{ℕ, Bool, List, Option, Result}
 use Rattle.events.specs.declared.Event.{Event}
 use Rattle.events.specs.declared.State.{State}
 use Rattle.filing.specs.declared.Slot.{Slot}
@@ -10,6 +10,7 @@ use Rattle.filing.specs.declared.Entries.{Entries}
 use Rattle.filing.specs.Slots.{RuleSlot}
 use Rattle.refusal.specs.declared.Refusal.{Refusal}
 use Rattle.account.specs.declared.Account.{Account}
+use Rattle.account.specs.declared.judging.Found.{Found}
 use Rattle.account.specs.declared.judging.Judged.{Judged}
 use Rattle.account.specs.declared.outcomes.Outcomes.{Outcomes}
 use Rattle.account.specs.declared.question.Reached.{Reached}
@@ -26,19 +27,19 @@ Knows s xs o = KnowsBy panel s xs o
 abbrev pub Decides : (requests : List RuleSlot) → Event → (progressing : ℕ) → Outcomes → Weighing → Type 0
 Decides requests e progressing o w = DecidesBy panel requests e progressing o w
 
-abbrev pub StaysHeld : Event → (progressing : ℕ) → Outcomes → Bool → Type 0
-StaysHeld e progressing o r = StaysHeldBy panel e progressing o r
+abbrev pub StaysHeld : (requests : List Slot) → (progressing : ℕ) → Outcomes → Bool → Type 0
+StaysHeld requests progressing o r = StaysHeldBy panel requests progressing o r
 
 -- judging, and whether a request is taken by it
-abbrev pub Judges : Account → (transaction : ℕ) → Judged → Type 0
+abbrev pub Judges : Account → (transaction : ℕ) → Result Judged Refusal → Type 0
 Judges a t r = JudgesBy panel a t r
 
-abbrev pub request_answer : Judged → (holding : ℕ) → Result (Unit {0}) Refusal
-request_answer j holding = request_answer_by panel j holding
+abbrev pub request_answer : Option Found → (holding : ℕ) → Result (Unit {0}) Refusal
+request_answer found holding = request_answer_by panel found holding
 
 -- what follows a commit or an abort
-abbrev pub Settles : Account → (marked : ℕ) → Entry → Account → Entries → Type 0
-Settles a marked first next entries = SettlesBy panel a marked first next entries
+abbrev pub Settles : Account → Entry → Account → Entries → Type 0
+Settles a first next entries = SettlesBy panel a first next entries
 
 abbrev pub Drains : Account → Entries → Account → Entries → Type 0
 Drains a before next entries = DrainsBy panel a before next entries

@@ -1,19 +1,20 @@
 -- What judging an account finds, and the refusals by it, as the account's own helpers have it, over any rule of the events (docs/REGISTER.md, 6 and 10.1).
 -- Assumes nothing.
-use Rattle.std.specs.Prelude.{ℕ, ◌+◌, ◌<◌, ◌≡◌, Bool, true, cond, not, ◌&&◌, ◌||◌, List, [], ◌∷◌, ◌++◌, eqb, leb, ltb, get_or, Result, Ok, Err}
-use Rattle.rule.specs.Lists.{some_of, keep}
-use Rattle.rule.specs.Rule.{Rule, Message, request, commit, abort}
+use Rattle.std.specs.Prelude.{ℕ, ◌+◌, ◌<◌, ◌≡◌, Bool, true, false, cond, not, ◌&&◌, List, [], ◌∷◌, map, length, take, eqb, leb, get_or, Option, None, Some, Result, Ok, Err}
+use Rattle.rule.specs.Lists.{some_of}
+use Rattle.rule.specs.Rule.{Rule}
 use Rattle.rule.specs.Step.{named}
 use Rattle.events.specs.declared.Event.{Event}
 use Rattle.events.specs.declared.State.{State}
-use Rattle.filing.specs.declared.Filed.{Filed}
 use Rattle.filing.specs.declared.Slot.{Slot}
 use Rattle.filing.specs.Slots.{places, blank, is_undecided, slot_of}
 use Rattle.refusal.specs.declared.Refusal.{Refusal}
 use Rattle.refusal.specs.declared.Refusal.TheVariants.{NotInOrder, KnownTransaction, AllHeld, UnknownTransaction, HeldTransaction, CommittedAlready, CommittedBefore}
 use Rattle.account.specs.declared.Account.{Account}
+use Rattle.account.specs.declared.judging.Found.{Found}
+use Rattle.account.specs.declared.judging.Found.TheVariants.{InProgress, OnHold}
 use Rattle.account.specs.declared.judging.Judged.{Judged}
-use Rattle.account.specs.Places.{used, lists_of}
+use Rattle.account.specs.Places.{lists_of}
 use Rattle.account.specs.InOrder.{in_order_by}
 use Rattle.account.specs.inside.Known.{KnowsBy}
 
@@ -26,48 +27,33 @@ abbrev pub all_differ : List ℕ → Bool
 all_differ [] = true
 all_differ (t ∷ ts) = not (some_of (eqb t) ts) && all_differ ts
 
--- where a transaction stands among the used places of a row: at a used place, or past the last place where it stands at none
-pub record FoundAt (t : ℕ) (row : List Slot) (count at : ℕ) : Type 0 where
-  pub tells : ltb at places ≡ some_of (named t) (used row count)
-  pub there : at < places → at < count
-  pub is : at < places → (get_or row at blank).transaction ≡ t
+-- where a transaction stands among these slots: in progress at a place, held, or at none
+abbrev pub Finds : ℕ → (events requests : List Slot) → Option Found → Type 0
+Finds t es rs None = (some_of (named t) (map slot_of es) ≡ false) × (some_of (named t) (map slot_of rs) ≡ false)
+Finds t es rs (Some (InProgress at x)) = (at < length es) × (get_or es at blank ≡ x) × (x.transaction ≡ t)
+Finds t es rs (Some (OnHold x)) = (at : ℕ) × (at < length rs) × (get_or rs at blank ≡ x) × (x.transaction ≡ t)
 
--- what is found of an account and a transaction: whether the account is in order; and of one in order, the outcomes of its events, and where the transaction stands
-pub record JudgesBy (R : Rule State Event ℕ) (a : Account) (t : ℕ) (r : Judged) : Type 0 where
-  pub ordered : r.in_order ≡ in_order_by R a
-  pub knows : in_order_by R a ≡ true → KnowsBy R a.state (lists_of a).progress r.outcomes
-  pub event : in_order_by R a ≡ true → FoundAt t a.progress a.progressing r.event
-  pub request : in_order_by R a ≡ true → FoundAt t a.held a.holding r.request
-  pub slot : in_order_by R a ≡ true → (some_of (named t) (lists_of a).progress || some_of (named t) (lists_of a).held) ≡ true
-      → keep (named t) (lists_of a).progress ++ keep (named t) (lists_of a).held ≡ slot_of r.slot ∷ []
+-- what is found of an account in order and a transaction: the outcomes of its events, and where the transaction stands
+pub record JudgedBy (R : Rule State Event ℕ) (a : Account) (t : ℕ) (j : Judged) : Type 0 where
+  pub knows : KnowsBy R a.state (lists_of a).progress j.outcomes
+  pub finds : Finds t (take a.progressing a.progress) (take a.holding a.held) j.found
 
--- where the transaction stands, by what was found: held, and in progress or held
-abbrev pub waits : Judged → Bool
-waits j = ltb j.request places
+-- whether an account is in order, and what is found of one that is
+abbrev pub JudgesBy : Rule State Event ℕ → Account → ℕ → Result Judged Refusal → Type 0
+JudgesBy R a t (Ok j) = (in_order_by R a ≡ true) × JudgedBy R a t j
+JudgesBy R a t (Err r) = (in_order_by R a ≡ false) × (r ≡ NotInOrder)
 
-abbrev pub is_named : Judged → Bool
-is_named j = ltb j.event places || waits j
+-- what is asked, by what was found: whether a request is taken, which place a commit marks, which slot an abort drops
+abbrev pub request_answer_by : Rule State Event ℕ → Option Found → (holding : ℕ) → Result (Unit {0}) Refusal
+request_answer_by R None holding = cond (leb R.held_limit holding) (Err AllHeld) (Ok tt)
+request_answer_by R (Some found) holding = Err KnownTransaction
 
--- whether what is asked is taken, by what was found
-abbrev pub request_answer_by : Rule State Event ℕ → Judged → (holding : ℕ) → Result (Unit {0}) Refusal
-request_answer_by R j holding = cond j.in_order (cond (is_named j) (Err KnownTransaction) (cond (leb R.held_limit holding) (Err AllHeld) (Ok tt))) (Err NotInOrder)
+abbrev pub commit_answer : Option Found → Result ℕ Refusal
+commit_answer None = Err UnknownTransaction
+commit_answer (Some (OnHold x)) = Err HeldTransaction
+commit_answer (Some (InProgress at x)) = cond (is_undecided x.decision) (Ok at) (Err CommittedAlready)
 
-abbrev pub commit_answer : Judged → Result (Unit {0}) Refusal
-commit_answer j =
-    cond j.in_order
-    (cond (not (is_named j)) (Err UnknownTransaction) (cond (waits j) (Err HeldTransaction) (cond (not (is_undecided j.slot.decision)) (Err CommittedAlready) (Ok tt))))
-    (Err NotInOrder)
-
-abbrev pub abort_answer : Judged → Result (Unit {0}) Refusal
-abort_answer j = cond j.in_order (cond (not (is_named j)) (Err UnknownTransaction) (cond (not (is_undecided j.slot.decision)) (Err CommittedBefore) (Ok tt))) (Err NotInOrder)
-
-abbrev pub answer_by : Rule State Event ℕ → Judged → Message Filed Event → (holding : ℕ) → Result (Unit {0}) Refusal
-answer_by R j (request t g e) holding = request_answer_by R j holding
-answer_by R j (commit t g) holding = commit_answer j
-answer_by R j (abort t g) holding = abort_answer j
-
--- the transaction that a message names
-abbrev pub message_names : Message Filed Event → ℕ
-message_names (request t g e) = t
-message_names (commit t g) = t
-message_names (abort t g) = t
+abbrev pub abort_answer : Option Found → Result Slot Refusal
+abort_answer None = Err UnknownTransaction
+abort_answer (Some (OnHold x)) = Ok x
+abort_answer (Some (InProgress at x)) = cond (is_undecided x.decision) (Ok x) (Err CommittedBefore)

@@ -1,6 +1,6 @@
 -- A step that is taken, as the account's own helpers have it: the rule's step in places, over any rule of the events (docs/REGISTER.md, 5 and 9.4).
 -- Assumes nothing.
-use Rattle.std.specs.Prelude.{ℕ, ◌<◌, ◌≡◌, true, List, [], ◌∷◌, get_or, set}
+use Rattle.std.specs.Prelude.{ℕ, ◌≡◌, true, List, [], ◌∷◌}
 use Rattle.rule.specs.Lists.{every}
 use Rattle.rule.specs.Rule.{Rule}
 use Rattle.rule.specs.InOrder.{without_decision, guarded}
@@ -8,13 +8,12 @@ use Rattle.rule.specs.Step as rule-step
 use Rattle.events.specs.declared.Event.{Event}
 use Rattle.events.specs.declared.State.{State}
 use Rattle.filing.specs.declared.Filed.{Filed}
-use Rattle.filing.specs.declared.Slot.{Slot}
 use Rattle.filing.specs.declared.Entry.{Entry}
 use Rattle.filing.specs.declared.Entries.{Entries}
-use Rattle.filing.specs.Slots.{RuleSlot, committed_slot, places, blank}
+use Rattle.filing.specs.Slots.{RuleSlot}
 use Rattle.filing.specs.Entries.{RuleEntry, entry_of, entries_of}
 use Rattle.account.specs.declared.Account.{Account}
-use Rattle.account.specs.Places.{RuleAccount, used, account_of}
+use Rattle.account.specs.Places.{RuleAccount, account_of}
 use Rattle.account.specs.Steps.{Stepped, taken_step}
 
 abbrev pub RuleStep : Type 0
@@ -28,26 +27,14 @@ taken_as step = taken_step (account_of step.account) (entries_of step.entries)
 abbrev pub listed : State → (progress held : List RuleSlot) → RuleAccount
 listed s progress held = record { state = s; progress = progress; held = held }
 
--- an account that is its lists', without a transaction's event, or its request
-abbrev pub WithoutEvent : Account → ℕ → Account → Type 0
-WithoutEvent a t r = (x : RuleAccount) → a ≡ account_of x → r ≡ account_of (listed x.state (rule-step.without t x.progress) x.held)
-
-abbrev pub WithoutRequest : Account → ℕ → Account → Type 0
-WithoutRequest a t r = (x : RuleAccount) → a ≡ account_of x → r ≡ account_of (listed x.state x.progress (rule-step.without t x.held))
-
--- the events in progress with the one at that place committed, if it is a place
-abbrev pub marked_at : ℕ → List Slot → List Slot
-marked_at at slots = set slots at (committed_slot (get_or slots at blank))
-
 module _ (R : Rule State Event ℕ) where
   -- what follows a commit or an abort of an account that is its lists', whose requests held have no decision, behind the call's own entry
-  abbrev pub SettlesBy : Account → ℕ → Entry → Account → Entries → Type 0
-  SettlesBy a marked first next entries =
-      (x : RuleAccount) (events : List RuleSlot) (own : RuleEntry)
+  abbrev pub SettlesBy : Account → Entry → Account → Entries → Type 0
+  SettlesBy a first next entries =
+      (x : RuleAccount) (own : RuleEntry)
       → a ≡ account_of x → every without_decision x.held ≡ true
-      → (marked < places → marked < a.progressing) → used (marked_at marked a.progress) a.progressing ≡ events
-      → first ≡ entry_of own → guarded R x.state [] events ≡ true
-      → taken_step next entries ≡ taken_as (rule-step.after (own ∷ []) (rule-step.settle R x.state events x.held))
+      → first ≡ entry_of own → guarded R x.state [] x.progress ≡ true
+      → taken_step next entries ≡ taken_as (rule-step.after (own ∷ []) (rule-step.settle R x.state x.progress x.held))
 
   -- the requests held of such an account, behind what was written
   abbrev pub DrainsBy : Account → Entries → Account → Entries → Type 0

@@ -1,11 +1,7 @@
 -- How far the requests are voted on.
 -- Assumes nothing.
-use Rattle.std.proofs.Common.{◌-◌}
 use Rattle.account.proofs.First.{Voting}
 use Rattle.account.proofs.Account.drain.Given as goal
 
 abbrev pub invariant-loop-at : goal.invariant-loop-at
 invariant-loop-at l = Voting l.fn.self l.fn.entries l.self l.entries l.outcomes l.voted l.at
-
-abbrev pub decreases-loop-at : goal.decreases-loop-at
-decreases-loop-at l = l.self.holding - l.at

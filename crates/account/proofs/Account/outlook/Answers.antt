@@ -1,47 +1,48 @@
--- 5 where the account is not in order, 12 where something is left of the number, else what the way reached.
+-- Not in order; no such outcome, where something is left of the number; else what the way reached.
 -- Assumes nothing.
-use Rattle.std.proofs.Common.{◌≡◌, ◌≤◌, length, sym, ap, ◌∙◌, arith}
+use Rattle.std.proofs.Common.{◌<◌, ◌≤◌, length, sym, ap, ◌∙◌, arith}
+use Rattle.std.proofs.Math.Seq.{get_or-take}
+use Rattle.filing.specs.Slots.{blank}
 use Rattle.account.specs.declared.question.Reached.{Reached}
+use Rattle.account.specs.First.{panel}
 use Rattle.account.proofs.Clauses.{clauses}
 use Rattle.account.proofs.Walks.{reached-next, reached-end, outlook-order, outlook-none, outlook-there}
 use Rattle.account.proofs.Account.outlook.Goals as goal
 
 pub returns-then-not-in_order : goal.returns-then-not-in_order
-returns-then-not-in_order c =
-    let a = c.args in
-    outlook-order _ a.self.now a.number (sym c.in_order.ensures ∙ c.if-not-in_order.true)
+returns-then-not-in_order c = outlook-order _ c.args.self.now c.args.number (sym c.in_order.ensures ∙ c.if-not-in_order.true)
 
-pub offset_bounds-self-at : goal.offset_bounds-self-at
-offset_bounds-self-at c =
-    let few = (clauses _ c.args.self.now (sym c.in_order.ensures ∙ c.if-not-in_order.false)).progressing in
+pub split_at-requires : goal.split_at-requires
+split_at-requires c =
+    let few = (clauses panel c.args.self.now (sym c.in_order.ensures ∙ c.if-not-in_order.false)).progressing in
     omega arith
 
-pub bounds-self-at : goal.bounds-self-at
-bounds-self-at c =
-    let few = (clauses _ c.args.self.now (sym c.in_order.ensures ∙ c.if-not-in_order.false)).progressing in
-    omega arith
-
-pub loop-at-preserved : goal.loop-at-preserved
-loop-at-preserved c =
+pub loop-slot-preserved : goal.loop-slot-preserved
+loop-slot-preserved c =
     let a = c.args.self.now in
-    let v = c.loop-at in
-    let few = (clauses _ a (sym c.in_order.ensures ∙ c.if-not-in_order.false)).progressing in
-    let many : length a.progress ≡ 8 = omega arith in
+    let v = c.loop-slot in
+    let few = (clauses panel a (sym c.in_order.ensures ∙ c.if-not-in_order.false)).progressing in
     let room : a.progressing ≤ length a.progress = omega arith in
-    (omega arith, rw c.past-reached.ensures (reached-next _ v.reached a.progressing a.progress v.at (omega arith) room) ∙ v.invariant.1)
+    let below : v.slot-index < a.progressing = omega (arith, c.split_at.ensures.front_len) in
+    rw (c.past-reached.ensures, c.split_at.ensures.front, get_or-take a.progressing a.progress v.slot-index blank below) (reached-next panel v.reached a.progressing a.progress v.slot-index below room)
+    ∙ v.invariant
 
 pub returns-then-reached-gt0 : goal.returns-then-reached-gt0
 returns-then-reached-gt0 c =
-    let a = c.args in
-    let v = c.loop-at in
-    let end = reached-end _ v.reached a.self.now.progressing a.self.now.progress v.at c.loop-at-test.false ∙ v.invariant.1 in
+    let a = c.args.self.now in
+    let v = c.loop-slot in
+    let few = (clauses panel a (sym c.in_order.ensures ∙ c.if-not-in_order.false)).progressing in
+    let past : a.progressing ≤ v.slot-index = omega (arith, c.split_at.ensures.front_len) in
+    let end = reached-end panel v.reached a.progressing a.progress v.slot-index past ∙ v.invariant in
     let left = ap (λ (r : Reached). r.left) end in
-    outlook-none _ a.self.now a.number (sym c.in_order.ensures ∙ c.if-not-in_order.false) (omega (arith, c.if-reached-gt0.true))
+    outlook-none panel a c.args.number (sym c.in_order.ensures ∙ c.if-not-in_order.false) (omega (arith, c.if-reached-gt0.true))
 
 pub returns : goal.returns
 returns c =
-    let a = c.args in
-    let v = c.loop-at in
-    let end = reached-end _ v.reached a.self.now.progressing a.self.now.progress v.at c.loop-at-test.false ∙ v.invariant.1 in
+    let a = c.args.self.now in
+    let v = c.loop-slot in
+    let few = (clauses panel a (sym c.in_order.ensures ∙ c.if-not-in_order.false)).progressing in
+    let past : a.progressing ≤ v.slot-index = omega (arith, c.split_at.ensures.front_len) in
+    let end = reached-end panel v.reached a.progressing a.progress v.slot-index past ∙ v.invariant in
     let left = ap (λ (r : Reached). r.left) end in
-    rw end (outlook-there _ a.self.now a.number (sym c.in_order.ensures ∙ c.if-not-in_order.false) (omega (arith, c.if-reached-gt0.false)))
+    rw end (outlook-there panel a c.args.number (sym c.in_order.ensures ∙ c.if-not-in_order.false) (omega (arith, c.if-reached-gt0.false)))

@@ -1,10 +1,11 @@
--- From this place on the numbers rise, and the lowest of them is at it.
+-- The transactions noted so far.
 -- Assumes nothing.
-use Rattle.account.proofs.Differ.{Rising}
+use Rattle.std.proofs.Common.{◌+◌, [], length, map}
+use Rattle.account.proofs.Differ.{Noted, transaction_in}
 use Rattle.account.proofs.judging.differ.Given as goal
 
 abbrev pub invariant-loop-at : goal.invariant-loop-at
-invariant-loop-at l = Rising l.transactions l.count l.at l.lowest
+invariant-loop-at l = Noted [] l.events l.at l.at l.transactions
 
-abbrev pub decreases-loop-at : goal.decreases-loop-at
-decreases-loop-at l = l.at
+abbrev pub invariant-loop-at-2 : goal.invariant-loop-at-2
+invariant-loop-at-2 l = Noted (map transaction_in l.events) l.requests l.at (length l.events + l.at) l.transactions

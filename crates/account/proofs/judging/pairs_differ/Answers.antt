@@ -1,27 +1,26 @@
--- The number here stands behind its place exactly if it stands there from here on.
+-- The number here, and those behind it.
 -- Assumes nothing.
-use Rattle.std.proofs.Common.{◌≤◌, length, sym, ◌∙◌, eqb, get_or, arith}
-use borrow.Author.Tests.{eq-eqb, ne_eqb}
-use Rattle.account.proofs.Differ.{some-there, some-behind, differ-not}
+use Rattle.std.proofs.Common.{◌+◌, ◌-◌, length, get_or, drop, eqb, sym, ◌∙◌, ap, arith, length-drop}
+use Rattle.std.proofs.lemmas.List.{take_all}
+use Rattle.std.specs.List.{list_any}
+use Rattle.account.proofs.Differ.{differ-not, differ-behind, differ-end}
 use Rattle.account.proofs.judging.pairs_differ.Goals as goal
 
-pub returns-then-transactions-at : goal.returns-then-transactions-at
-returns-then-transactions-at c =
-    let a = c.args in
-    let ts = a.transactions.now in
+pub returns-then-contains : goal.returns-then-contains
+returns-then-contains c =
+    let numbers = c.args.numbers.now in
     let v = c.loop-at in
-    let w = c.loop-behind in
-    let room : a.count ≤ length ts = omega arith in
-    let here = eqb (get_or ts v.at 0) in
-    let there = some-there ts a.count room here w.behind (omega arith) (eq-eqb _ _ c.if-transactions-at.true) in
-    differ-not ts a.count room v.at (omega arith) (sym w.invariant.2 ∙ there) ∙ v.invariant.1
+    let behind = drop (v.at + 1) numbers in
+    let all = take_all (length numbers - (v.at + 1)) behind (omega (arith, length-drop (v.at + 1) numbers)) in
+    differ-not numbers v.at (omega arith) (sym (c.contains.ensures.value ∙ ap (list_any (λ t. eqb t (get_or numbers v.at 0))) all) ∙ c.if-contains.true) ∙ v.invariant
 
-pub loop-behind-preserved : goal.loop-behind-preserved
-loop-behind-preserved c =
-    let a = c.args in
-    let ts = a.transactions.now in
+pub loop-at-preserved : goal.loop-at-preserved
+loop-at-preserved c =
+    let numbers = c.args.numbers.now in
     let v = c.loop-at in
-    let w = c.loop-behind in
-    let room : a.count ≤ length ts = omega arith in
-    let here = eqb (get_or ts v.at 0) in
-    (omega arith, omega arith, some-behind ts a.count room here w.behind (omega arith) (ne_eqb _ _ c.if-transactions-at.false) ∙ w.invariant.2)
+    let behind = drop (v.at + 1) numbers in
+    let all = take_all (length numbers - (v.at + 1)) behind (omega (arith, length-drop (v.at + 1) numbers)) in
+    differ-behind numbers v.at (omega arith) (sym (c.contains.ensures.value ∙ ap (list_any (λ t. eqb t (get_or numbers v.at 0))) all) ∙ c.if-contains.false) ∙ v.invariant
+
+pub returns : goal.returns
+returns c = sym (differ-end c.args.numbers.now c.loop-at.at (omega arith)) ∙ c.loop-at.invariant

@@ -1,7 +1,7 @@
 -- Where there is room for the longest of each, there is for the entries; else the room that is left tells.
 -- Assumes nothing.
-use Rattle.std.proofs.Common.{◌/◌, ◌≤◌, ◌≡◌, length, take, sym, arith}
-use borrow.Author.Tests.{le-leb, lt-leb}
+use Rattle.std.proofs.Common.{◌/◌, ◌≤◌, length, refl, arith}
+use Rattle.std.proofs.lemmas.Bool.{false≢true}
 use Rattle.std.proofs.lemmas.List.{take_all}
 use Rattle.entry.specs.Bytes.{wholes_of}
 use Rattle.entry.proofs.Stored.{wholes-short, wholes-more, wholes-next}
@@ -11,7 +11,7 @@ pub returns-then-entries-length : goal.returns-then-entries-length
 returns-then-entries-length c =
     let a = c.args in
     let few : length a.entries.now ≤ a.length / 40 = c.if-entries-length.true in
-    sym (le-leb (wholes_of a.entries.now) a.length (omega (arith, wholes-short a.entries.now)))
+    (λ t. omega (arith, wholes-short a.entries.now), λ h. refl)
 
 pub loop-entry-init : goal.loop-entry-init
 unfolding wholes_of
@@ -19,9 +19,8 @@ loop-entry-init c = omega arith
 
 pub returns-in_default : goal.returns-in_default
 returns-in_default c =
-    let a = c.args in
-    let next = wholes-next a.entries.now c.loop-entry.entry-index c.loop-entry-test.true in
-    sym (lt-leb (wholes_of a.entries.now) a.length (omega (arith, next, c.in_default.ensures)))
+    let next = wholes-next c.args.entries.now c.loop-entry.entry-index c.loop-entry-test.true in
+    (λ t. absurd (false≢true t), λ h. absurd (omega (arith, next, c.in_default.ensures)))
 
 pub loop-entry-preserved : goal.loop-entry-preserved
 loop-entry-preserved c =
@@ -29,7 +28,6 @@ loop-entry-preserved c =
 
 pub returns : goal.returns
 returns c =
-    let a = c.args in
-    let all : take c.loop-entry.entry-index a.entries.now ≡ a.entries.now = take_all c.loop-entry.entry-index a.entries.now c.loop-entry-test.false in
-    let left = rw all at c.loop-entry.invariant in
-    sym (le-leb (wholes_of a.entries.now) a.length (omega arith))
+    let v = c.loop-entry in
+    let left = rw (take_all v.entry-index c.args.entries.now c.loop-entry-test.false) at v.invariant in
+    (λ t. omega (arith, left), λ h. refl)

@@ -8,9 +8,7 @@ use Rattle.entry.proofs.writer.put_entry.Goals as goal
 
 pub returns-clause-length : goal.returns-clause-length
 unfolding length_of_told
-returns-clause-length c = rw (c.shape_of-shape.ensures, c.told_kind.ensures) (shape-whole (row_of_kind entry_rows (kind_of c.args.entry.told)))
+returns-clause-length c = rw (c.shape-shape.ensures, c.from.ensures) (shape-whole (row_of_kind entry_rows (kind_of c.args.entry.told)))
 
 pub returns-clause-bytes : goal.returns-clause-bytes
-returns-clause-bytes c =
-    let a = c.args in
-    rw (c.numbers_of.ensures, c.shape_of-shape.ensures, c.told_kind.ensures, row-bytes a.account a.entry) at c.put_numbers.ensures
+returns-clause-bytes c = rw (c.numbers_of-numbers.ensures, c.shape-shape.ensures, c.from.ensures, row-bytes c.args.account c.args.entry) at c.put_numbers.ensures

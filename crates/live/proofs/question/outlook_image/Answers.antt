@@ -1,9 +1,8 @@
 -- 3, or the account that its words are.
 -- Assumes nothing.
-use Rattle.std.proofs.Common.{refl, ap, ◌∙◌, arith}
+use Rattle.std.proofs.Common.{refl, arith}
 use borrow.Author.Tests.{lt-ltb, le-ltb}
 use Rattle.layout.specs.Fields.{last_account}
-use Rattle.image.specs.Reading.{account_from}
 use Rattle.register.specs.Register.{asked_by}
 use Rattle.live.specs.Live.{look_by}
 use Rattle.live.proofs.Standing.{account-of-image}
@@ -17,7 +16,6 @@ pub returns : goal.returns
 unfolding look_by asked_by
 returns c =
     let a = c.args in
-    let words = a.image.now in
     let within = c.if-account-gt-LAST_ACCOUNT.false in
-    let is = c.read_account-named.ensures ∙ ap (account_from words) c.word_at.ensures in
-    rw (le-ltb last_account a.account within, account-of-image words a.account (omega arith), ← is) c.outlook.ensures
+    rw (le-ltb last_account a.account within, account-of-image a.image.now a.account (omega arith))
+    (rw (c.read_account.ensures, c.word_at.ensures) at c.outlook.ensures)

@@ -1,55 +1,58 @@
 -- Each way out is one law of `proofs/Writes.antt`.
 -- Assumes nothing.
+use Rattle.std.proofs.Common.{ℕ, ◌≡◌, length, sym, ◌∙◌, arith}
+use Rattle.std.proofs.lemmas.Result.{err_from_is_err_and}
+use Rattle.account.specs.First.{panel}
+use Rattle.message.specs.Bytes.{heading_of}
+use Rattle.entry.specs.Bytes.{bytes_of_entries, list_of}
 use Rattle.register.proofs.Suits.{first-suits}
-use Rattle.register.proofs.Writes.{entries_fit, reading-refused, room-refused, sent-refused, sent-fits, sent-taken}
+use Rattle.register.proofs.Writes.{sent-keeps, reading-refused, room-refused, sent-refused, sent-taken, entries-written}
 use Rattle.register.proofs.Register.call.Goals as goal
 
-pub returns-in_default : goal.returns-in_default
-returns-in_default c =
-    let a = c.args in
-    let read = c.read_message-reading in
-    let left = c.unchanged in
-    reading-refused _ a.self a.bytes.now a.buffer.now read.result c.in_default.field-0 c.refusal_of_reading.result left.result.reply left.result.register
-    read.ensures c.in_default.is c.refusal_of_reading.ensures left.ensures.0 left.ensures.1
+pub returns-in_err-message : goal.returns-in_err-message
+returns-in_err-message c =
+    let called = reading-refused panel first-suits c.args.self.now c.args.bytes.now c.args.buffer.now c.in_err-message.field-0.0 (sym c.in_err-message.ensures) in
+    let p = err_from_is_err_and c.from_residual.result c.from_residual.ensures.1 in
+    record { reply = rw (called, p.1, p.2); register = rw called; buffer = rw called }
 
 pub returns-then-buffer-lt-LONGEST_CALL : goal.returns-then-buffer-lt-LONGEST_CALL
 returns-then-buffer-lt-LONGEST_CALL c =
-    let a = c.args in
-    let read = c.read_message-reading in
-    let left = c.unchanged-then-buffer-lt-LONGEST_CALL in
-    room-refused _ a.self a.bytes.now a.buffer.now read.result c.in-Message.message c.in-Message.consumed read.ensures c.in-Message.is
-    left.result.reply left.result.register c.if-buffer-lt-LONGEST_CALL.true left.ensures.0 left.ensures.1
+    let called = room-refused panel first-suits c.args.self.now c.args.bytes.now c.args.buffer.now c.in_ok-message.message c.in_ok-message.consumed (sym c.in_ok-message.ensures) c.if-buffer-lt-LONGEST_CALL.true in
+    record { reply = rw called; register = rw called; buffer = rw called }
 
-pub returns-in_default-answer : goal.returns-in_default-answer
-returns-in_default-answer c =
-    let a = c.args in
-    let read = c.read_message-reading in
-    let sent = c.send-sent in
-    let left = c.unchanged-in_default-answer in
-    sent-refused _ a.self a.bytes.now a.buffer.now read.result c.in-Message.message c.in-Message.consumed read.ensures c.in-Message.is
-    sent.result c.if-buffer-lt-LONGEST_CALL.false sent.ensures
-    c.in_default-answer.field-0 c.refusal_of_step.result left.result.reply left.result.register
-    c.in_default-answer.is c.refusal_of_step.ensures left.ensures.0 left.ensures.1
+pub returns-in_err-entries : goal.returns-in_err-entries
+returns-in_err-entries c =
+    let refused = sym c.in_err-entries.ensures.answer in
+    let called =
+    sent-refused panel first-suits c.args.self.now c.args.bytes.now c.args.buffer.now c.in_ok-message.message c.in_ok-message.consumed (sym c.in_ok-message.ensures) c.if-buffer-lt-LONGEST_CALL.false
+    c.in_err-entries.field-0.0 refused in
+    let p = err_from_is_err_and c.from_residual-in_err-entries.result c.from_residual-in_err-entries.ensures.1 in
+    record {
+      reply = rw (called, p.1, p.2);
+      register = rw called (c.send.ensures.register ∙ sent-keeps panel c.args.self.now c.in_ok-message.message c.in_err-entries.field-0.0 refused);
+      buffer = rw called;
+    }
 
-pub returns-in_default-writing : goal.returns-in_default-writing
-returns-in_default-writing c =
-    let a = c.args in
-    let read = c.read_message-reading in
-    let sent = c.send-sent in
-    let number = c.account_of in
-    let writing = c.write_entries-writing in
-    let fits =
-    sent-fits _ a.self a.bytes.now a.buffer.now read.result c.in-Message.message c.in-Message.consumed read.ensures c.in-Message.is sent.result c.if-buffer-lt-LONGEST_CALL.false sent.ensures
-    first-suits c.in-Taken.is in
-    absurd (entries_fit sent.result.entries number.result a.buffer.now (rw number.ensures fits) writing.result c.in_default-writing.field-0 writing.ensures.0 c.in_default-writing.is)
+pub returns-in_err-written : goal.returns-in_err-written
+returns-in_err-written c =
+    let wrote =
+    entries-written panel first-suits c.args.self.now c.args.bytes.now c.args.buffer.now c.in_ok-message.message c.in_ok-message.consumed (sym c.in_ok-message.ensures) c.if-buffer-lt-LONGEST_CALL.false
+    c.in_ok-entries.entries (sym c.in_ok-entries.ensures.answer) in
+    let e = rw (c.as_slice.ensures, c.account_of.ensures, wrote) at c.in_err-written.ensures.answer in
+    let z : ◌≡◌ {A = ℕ} 0 1 = cc in absurd (omega arith)
 
 pub returns : goal.returns
 returns c =
-    let a = c.args in
-    let read = c.read_message-reading in
-    let sent = c.send-sent in
-    let number = c.account_of in
-    let writing = c.write_entries-writing in
-    sent-taken _ a.self a.bytes.now a.buffer.now read.result c.in-Message.message c.in-Message.consumed read.ensures c.in-Message.is sent.result c.if-buffer-lt-LONGEST_CALL.false sent.ensures
-    first-suits number.result writing.result c.in-Written.written writing.new.buffer
-    c.in-Taken.is number.ensures writing.ensures.0 c.in-Written.is writing.ensures.1
+    let taken =
+    sent-taken panel first-suits c.args.self.now c.args.bytes.now c.args.buffer.now c.in_ok-message.message c.in_ok-message.consumed (sym c.in_ok-message.ensures) c.if-buffer-lt-LONGEST_CALL.false
+    c.in_ok-entries.entries (sym c.in_ok-entries.ensures.answer) in
+    let wrote =
+    entries-written panel first-suits c.args.self.now c.args.bytes.now c.args.buffer.now c.in_ok-message.message c.in_ok-message.consumed (sym c.in_ok-message.ensures) c.if-buffer-lt-LONGEST_CALL.false
+    c.in_ok-entries.entries (sym c.in_ok-entries.ensures.answer) in
+    let e = rw (c.as_slice.ensures, c.account_of.ensures, wrote) at c.in_ok-written.ensures.answer in
+    let n : c.in_ok-written.written ≡ length (bytes_of_entries (heading_of c.in_ok-message.message).account (list_of c.in_ok-entries.entries)) = cc in
+    record {
+      reply = rw (taken, n);
+      register = rw taken c.send.ensures.register;
+      buffer = rw taken (rw (c.as_slice.ensures, c.account_of.ensures, wrote) at c.write_entries.ensures.buffer);
+    }

@@ -6,7 +6,7 @@ use Rattle.register.proofs.Underway.{Underway}
 use Rattle.register.proofs.runs.run.Given as goal
 
 abbrev pub invariant-loop-ran : goal.invariant-loop-ran
-invariant-loop-ran l = Underway _ first-suits l.messages l.fn.entries (record { accounts = l.accounts }) l.ran l.entries
+invariant-loop-ran l = Underway _ first-suits l.messages l.fn.entries l.register l.ran l.entries
 
 abbrev pub decreases-loop-ran : goal.decreases-loop-ran
 decreases-loop-ran l = length l.messages - l.ran.consumed
