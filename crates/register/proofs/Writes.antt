@@ -70,7 +70,7 @@ module _ (R : rule.Rule State Event ℕ) (r : Register) (m : Message) where
     where
       go : {sent : _} → Sending R r m sent → sent.answer ≡ Err x → sent.register ≡ r
       go (refused n high) e = refl
-      go (taken free) e = let z : ◌≡◌ {A = ℕ} 0 1 = cc in absurd (omega arith)
+      go (taken free) e = cc
 
 -- The ways out of a call.
 module _ (R : rule.Rule State Event ℕ) (k : Suits R) (r : Register) (bytes buffer : List ℕ) where
@@ -107,7 +107,7 @@ module _ (R : rule.Rule State Event ℕ) (k : Suits R) (r : Register) (bytes buf
       entries-written entries e = rw (le-ltb (length buffer) longest_call l, le-ltb (length buffer) (length (bytes_of_entries i (list_of entries))) (go (sending R r m) e))
         where
           go : {sent : _} → Sending R r m sent → sent.answer ≡ Ok entries → length (bytes_of_entries i (list_of entries)) ≤ length buffer
-          go (refused n high) e = let z : ◌≡◌ {A = ℕ} 0 1 = cc in absurd (omega arith)
+          go (refused n high) e = cc
           go (taken free) e =
               let same : entries ≡ entries_of (taking R r m).entries = cc in
               rw (same, listed (taking R r m).entries) (omega (arith, l, taken-bytes R r m k free i))

@@ -1,6 +1,6 @@
 -- Each way out is one law of `proofs/Writes.antt`.
 -- Assumes nothing.
-use Rattle.std.proofs.Common.{ℕ, ◌≡◌, length, sym, ◌∙◌, arith}
+use Rattle.std.proofs.Common.{◌≡◌, length, sym, ◌∙◌}
 use Rattle.std.proofs.lemmas.Result.{err_from_is_err_and}
 use Rattle.account.specs.First.{panel}
 use Rattle.message.specs.Bytes.{heading_of}
@@ -39,7 +39,7 @@ returns-in_err-written c =
     entries-written panel first-suits c.args.self.now c.args.bytes.now c.args.buffer.now c.in_ok-message.message c.in_ok-message.consumed (sym c.in_ok-message.ensures) c.if-buffer-lt-LONGEST_CALL.false
     c.in_ok-entries.entries (sym c.in_ok-entries.ensures.answer) in
     let e = rw (c.as_slice.ensures, c.account_of.ensures, wrote) at c.in_err-written.ensures.answer in
-    let z : ◌≡◌ {A = ℕ} 0 1 = cc in absurd (omega arith)
+    cc
 
 pub returns : goal.returns
 returns c =
