@@ -3,28 +3,24 @@
 use Prim.Native.Nat.{ℕ, ◌≤◌, ◌<◌}
 use mathlib.Core.Path.{◌≡◌, refl, ap, ◌∙◌}
 use mathlib.Core.Bool.{Bool, true, false, cond, false≢true}
-use mathlib.Core.List.{List, [], ◌∷◌}
-use native.Mathlib.Omega.{arith}
-use lib.ListN.{length}
+use mathlib.Core.List.{List, []}
 use borrow.Author.Tests.{le-leb, lt-leb}
 use Rattle.rule.specs.Rule as rule
 use Rattle.rule.specs.Outcome.{outcome, outcomes}
 use Rattle.rule.specs.Weigh.{reason_by, weigh, decide}
-use Rattle.rule.specs.InOrder.{stays_held}
 use Rattle.events.specs.declared.Event.{Event}
 use Rattle.events.specs.declared.State.{State}
 use Rattle.events.specs.Events.{reason_byte, reason_from}
 use Rattle.events.specs.Range.{range_of, every_in, some_in}
 use Rattle.events.proofs.Answers.{outcomes-every, outcomes-some}
-use Rattle.filing.specs.declared.Slot.{Slot}
 use Rattle.filing.specs.declared.Verdict.{Verdict}
-use Rattle.filing.specs.declared.Verdict.TheVariants.{Accepted, Rejected, Held}
+use Rattle.filing.specs.declared.Verdict.TheVariants.{Held}
 use Rattle.filing.specs.declared.Weighing.{Weighing}
 use Rattle.filing.specs.Slots.{RuleSlot}
-use Rattle.filing.specs.Entries.{is_held, verdict_of}
+use Rattle.filing.specs.Entries.{verdict_of}
 use Rattle.filing.proofs.Slots.{reason-forth}
 use Rattle.account.specs.declared.outcomes.Outcomes.{Outcomes}
-use Rattle.account.specs.inside.Known.{DecidesBy, StaysHeldBy, verdict_by}
+use Rattle.account.specs.inside.Known.{DecidesBy, verdict_by}
 use Rattle.account.proofs.Ranged.{Ranged}
 
 by_tests : (a b : Bool) → verdict_of (verdict_by a b) ≡ cond a rule.accept (cond b rule.hold rule.reject)
@@ -34,11 +30,6 @@ by_tests false false = refl
 
 abbrev unweighed : Weighing
 unweighed = record { verdict = Held; weighed = 0; reason = 0 }
-
-held_same : (v : Verdict) → is_held v ≡ stays_held (verdict_of v)
-held_same Accepted = refl
-held_same Rejected = refl
-held_same Held = refl
 
 module _ (R : rule.Rule State Event ℕ) (e : Event) (n : ℕ) (o : Outcomes) where
   -- no place is free in progress
@@ -71,16 +62,3 @@ module _ (R : rule.Rule State Event ℕ) (e : Event) (n : ℕ) (o : Outcomes) wh
       reason_kept ranged rule.accept s = refl
       reason_kept ranged rule.reject s = reason-forth (R.reason e s) (ranged.reasoned e s)
       reason_kept ranged rule.hold s = refl
-
-  -- behind requests held, nothing is weighed; behind none, the decision is that with nothing held
-  pub decided-behind : (requests : List RuleSlot) → 0 < length requests → DecidesBy R requests e n o unweighed
-  decided-behind [] h = absurd (omega arith)
-  decided-behind (x ∷ requests) h = record { free = λ v. absurd (false≢true v); decided = λ s xs k g q. refl }
-
-  pub decided-first : (requests : List RuleSlot) (w : Weighing) → length requests ≡ 0 → DecidesBy R [] e n o w → DecidesBy R requests e n o w
-  decided-first [] w h d = d
-  decided-first (x ∷ requests) w h d = absurd (omega arith)
-
-  -- whether the oldest of those held stays is then what the rule decides
-  pub decided-stays : (oldest : Slot) (rest : List Slot) → oldest.event ≡ e → (w : Weighing) → DecidesBy R [] e n o w → StaysHeldBy R (oldest ∷ rest) n o (is_held w.verdict)
-  decided-stays oldest rest is w d = λ s xs k g q. rw is (held_same w.verdict ∙ ap (λ (v : rule.Weighing). stays_held v.verdict) (d.decided s xs k g q))

@@ -1,7 +1,7 @@
 -- What is known of the outcomes, with one event more: its guard in every outcome is what the range tells, and where it holds the range goes on with the list; the number doubles at an
 -- undecided one. Of any rule that a range answers for.
 -- Assumes nothing.
-use Prim.Native.Nat.{ℕ, ◌+◌, ◌^◌, ◌≤◌}
+use Prim.Native.Nat.{ℕ, ◌+◌, ◌*◌, ◌^◌, ◌≤◌}
 use mathlib.Core.Path.{◌≡◌, refl, sym, ◌∙◌, ap}
 use mathlib.Core.Bool.{Bool, true, false, ◌&&◌, false≢true, true≢false}
 use mathlib.Core.List.{List, [], ◌∷◌, ◌++◌, map}
@@ -22,11 +22,9 @@ use Rattle.events.proofs.States.{formed, range-one}
 use Rattle.events.proofs.Newest.{outcomes-past, outcomes-more, first_past, first_more, guarded-more}
 use Rattle.events.proofs.Answers.{outcomes-every, outcomes-after, outcomes-perhaps}
 use Rattle.account.specs.declared.outcomes.Outcomes.{Outcomes}
-use Rattle.account.specs.Places.{used}
 use Rattle.filing.specs.declared.Decision.{Decision}
 use Rattle.filing.specs.declared.Decision.TheVariants.{Undecided, Committed}
 use Rattle.filing.specs.declared.Filed.{Filed}
-use Rattle.filing.specs.declared.Slot.{Slot}
 use Rattle.filing.specs.Slots.{RuleSlot, is_undecided, decision_of}
 use Rattle.account.specs.inside.Known.{KnowsBy}
 use Rattle.account.proofs.Ranged.{Ranged}
@@ -91,10 +89,10 @@ module _ (R : rule.Rule State Event ℕ) where
 
       -- undecided: in one half of them
       pub knows-perhaps : is_undecided d ≡ true → first ≡ o.first → (o.range.lowest ≤ o.range.highest → every_in e o.range ≡ true → x ≡ range_perhaps e o.range)
-          → KnowsBy R s (xs ++ (rule.slot t g e (decision_of d) ∷ [])) (known x (o.number + o.number) first (o.guarded && all))
+          → KnowsBy R s (xs ++ (rule.slot t g e (decision_of d) ∷ [])) (known x (2 * o.number) first (o.guarded && all))
       knows-perhaps u q f =
           let again = map (R.effect e) (outcomes R xs s) in
-          let two : o.number + o.number ≡ length (outcomes R xs s) + length again = omega (arith, k.number, length-map (outcomes R xs s) (R.effect e)) in
+          let two : 2 * o.number ≡ length (outcomes R xs s) + length again = omega (arith, k.number, length-map (outcomes R xs s) (R.effect e)) in
           rw (← undecided-is d u, tells)
           (record {
             number = two ∙ sym (ap length (outcomes-more R t g e xs s) ∙ length-append (outcomes R xs s) again);
@@ -109,7 +107,3 @@ module _ (R : rule.Rule State Event ℕ) where
   knows-few s xs o k h =
       let most : 2 ^ undecided_of xs ≤ 2 ^ 7 = pow_mono {j = 7} (omega (arith, undecided-few xs)) in
       omega (arith, k.number, outcomes-length R xs s)
-
-  -- at the last place, all of them
-  pub knows-end : (s : State) (row : List Slot) (o : Outcomes) (at count : ℕ) → at ≡ count → KnowsBy R s (used row at) o → KnowsBy R s (used row count) o
-  knows-end s row o at count e k = rw e at k

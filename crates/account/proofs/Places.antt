@@ -1,17 +1,16 @@
--- The places of a row: the first ones with one more, those from a place on with the place itself, how many there are.
+-- The places of a row: the first ones with one more, how many there are, all of them.
 -- Assumes nothing.
 use Prim.Native.Nat.{ℕ, ◌+◌, ◌<◌, ◌≤◌}
 use mathlib.Core.Path.{◌≡◌, refl, sym, ap, ◌∙◌}
 use mathlib.Core.Bool.{false}
 use mathlib.Core.List.{List, [], ◌∷◌, ◌++◌, map}
 use native.Mathlib.Numerals.{add-one}
-use lib.ListN.{length, get_or, take, drop, length-map}
+use lib.ListN.{length, get_or, take, length-map}
 use borrow.Author.Tests.{ne_eqb}
-use lib.Seq.{take-suc, drop-cons, length-take-le}
+use lib.Seq.{take-suc, length-take-le}
 use Rattle.rule.proofs.Lists.{map-append}
 use Rattle.filing.specs.declared.Slot.{Slot}
 use Rattle.filing.specs.Slots.{slot_of, blank}
-use Rattle.filing.specs.contracts.Slot.{the_field}
 use Rattle.std.proofs.lemmas.List.{take_all}
 use Rattle.rule.specs.Lists.{some_of}
 use Rattle.rule.specs.Step.{named}
@@ -19,10 +18,6 @@ use Rattle.rule.proofs.Lists.{some-append}
 use Rattle.account.specs.Places.{used}
 
 module _ (row : List Slot) where
-  -- an array of places has as many as its type says: what is known of the machine's values, said of the places
-  pub as_many : {n : ℕ} → length (map the_field.into row) ≡ n → length row ≡ n
-  as_many e = sym (length-map row the_field.into) ∙ e
-
   module _ (at : ℕ) where
     pub take_more : (d : Slot) → at < length row → take (at + 1) row ≡ take at row ++ (get_or row at d ∷ [])
     take_more d h = rw (add-one, take-suc row at d)
@@ -32,9 +27,6 @@ module _ (row : List Slot) where
 
     pub count-used : at ≤ length row → length (used row at) ≡ at
     count-used h = length-map (take at row) slot_of ∙ length-take-le at row h
-
-    pub drop-next : (d : Slot) → at < length row → drop at row ≡ get_or row at d ∷ drop (at + 1) row
-    drop-next d h = rw (add-one, drop-cons row at d)
 
 -- all of a row, and one slot more that is not a transaction's
 pub used-all : (row : List Slot) (at : ℕ) → length row ≤ at → used row at ≡ map slot_of row

@@ -54,34 +54,31 @@ impl Outcomes {
         requires { self.number ≤ 128 }
         ensures { (s : State) (xs : List RuleSlot) (t : ℕ) (g : Filed) → Knows s xs self → Knows s (xs ++ (slot t g event (decision_of decision) ∷ [])) result }
     {
-        let range = self.range;
-        let first = self.first;
         if decision.is_undecided() {
             Outcomes {
-                guarded: self.guarded & range.every(event),
-                range: range.perhaps(event),
-                number: self.number + self.number,
-                first,
+                guarded: self.guarded & self.range.every(event),
+                range: self.range.perhaps(event),
+                number: 2 * self.number,
+                ..self
             }
         } else {
             Outcomes {
-                guarded: self.guarded & range.every(event),
-                range: range.after(event),
-                number: self.number,
-                first: event.effect(first),
+                guarded: self.guarded & self.range.every(event),
+                range: self.range.after(event),
+                first: event.effect(self.first),
+                ..self
             }
         }
     }
 
     // The decision on a request with nothing held before it: held unweighed where no place is free in progress, else weighed (4.4 and 4.5).
-    pub(crate) fn decide(self, progressing: usize, event: Event) -> Weighing
-        ensures { Decides [] event progressing self result }
+    pub(crate) fn decide(&self, progressing: usize, event: Event) -> Weighing
+        ensures { Decides [] event progressing self.now result }
     {
         if Account::PROGRESS <= progressing {
             return Weighing::UNWEIGHED;
         }
-        let range = self.range;
-        let verdict = verdict_of(range.every(event), range.some(event));
+        let verdict = verdict_of(self.range.every(event), self.range.some(event));
         Weighing {
             verdict,
             weighed: self.number,
@@ -90,19 +87,18 @@ impl Outcomes {
     }
 
     // The reason of a rejection, the one in outcome 0 (4.7); 0 for any other verdict.
-    fn reason(self, verdict: Verdict, event: Event) -> u8
-        ensures { result ≡ reason_byte (reason_by (verdict_of verdict) (reason_of event self.first)) }
+    fn reason(&self, verdict: Verdict, event: Event) -> u8
+        ensures { result ≡ reason_byte (reason_by (verdict_of verdict) (reason_of event self.now.first)) }
     {
         match verdict {
-            Verdict::Accepted => 0,
+            Verdict::Accepted | Verdict::Held => 0,
             Verdict::Rejected => event.reason_byte(self.first),
-            Verdict::Held => 0,
         }
     }
 
     // The decision on a request behind those held: held unweighed if there are any.
-    pub(crate) fn decide_behind(self, holding: usize, progressing: usize, event: Event) -> Weighing
-        ensures { (requests : List RuleSlot) → holding ≡ length requests → Decides requests event progressing self result }
+    pub(crate) fn decide_behind(&self, holding: usize, progressing: usize, event: Event) -> Weighing
+        ensures { (requests : List RuleSlot) → holding ≡ length requests → Decides requests event progressing self.now result }
     {
         if 0 < holding {
             return Weighing::UNWEIGHED;
@@ -111,8 +107,8 @@ impl Outcomes {
     }
 
     // Whether the oldest request held, if there is one, stays held (6.7).
-    pub(crate) fn oldest_stays_held(self, progressing: usize, requests: &[Slot]) -> bool
-        ensures { StaysHeld requests.now progressing self result }
+    pub(crate) fn oldest_stays_held(&self, progressing: usize, requests: &[Slot]) -> bool
+        ensures { StaysHeld requests.now progressing self.now result }
     {
         match requests {
             [oldest, ..] => self.decide(progressing, oldest.event).verdict.is_held(),
@@ -125,11 +121,9 @@ impl Outcomes {
 fn verdict_of(every: bool, some: bool) -> Verdict
     ensures { result ≡ verdict_by every some }
 {
-    if every {
-        return Verdict::Accepted;
+    match (every, some) {
+        (true, _) => Verdict::Accepted,
+        (false, true) => Verdict::Held,
+        (false, false) => Verdict::Rejected,
     }
-    if some {
-        return Verdict::Held;
-    }
-    Verdict::Rejected
 }

@@ -28,7 +28,8 @@ impl Account {
             state: self.state,
             left: number,
         };
-        for slot in &self.progress[..self.progressing] {
+        let (events, _) = self.progress.split_at(self.progressing);
+        for slot in events {
             reached = reached.past(*slot);
         }
         if 0 < reached.left {

@@ -45,8 +45,8 @@ stored-table : (e : Event) (s : State) → (table_effect e s).balance ≤ most �
 stored-table e s h = grind (arith, nat_tests)
 
 -- so the effect is, where the guard holds,
-pub stored-effect : (e : Event) (s : State) → s.balance ≤ most → guard_of e s ≡ true → stored_effect e s ≡ effect_of e s
-stored-effect e s h g = stored-table e s (effect-fits e s h g) ∙ sym (effect-table e s g)
+pub effect_stored : (e : Event) (s : State) → s.balance ≤ most → guard_of e s ≡ true → stored_effect e s ≡ effect_of e s
+effect_stored e s h g = stored-table e s (effect-fits e s h g) ∙ sym (effect-table e s g)
 
 -- and so is a range in which the guard holds everywhere
 module _ (e : Event) (x : Range) (h : x.lowest ≤ x.highest) (k : x.highest ≤ most) (all : every_in e x ≡ true) where

@@ -6,8 +6,7 @@ use native.Mathlib.Omega.{arith}
 use mathlib.Core.Path.{◌≡◌, refl, ◌∙◌}
 use mathlib.Core.Bool.{Bool, true, false, cond}
 use mathlib.Core.List.{List, [], ◌∷◌, ◌++◌, append_assoc}
-use Rattle.std.specs.Prelude.{Ok}
-use borrow.Author.Tests.{lt-ltb, le-ltb}
+use borrow.Author.Tests.{lt-ltb}
 use lib.Dec.{ltb, lit<, lit≤}
 use lib.ListN.{length, length-append}
 use lib.Seq.{sets, take_all}
@@ -19,12 +18,11 @@ use Rattle.filing.specs.declared.Verdict.TheVariants.{Accepted, Rejected, Held}
 use Rattle.filing.specs.declared.Told.{Told}
 use Rattle.filing.specs.declared.Told.TheVariants.{Voted, Noted, Applied, Dropped}
 use Rattle.filing.specs.declared.Entry.{Entry}
-use Rattle.refusal.specs.declared.Refusal.TheVariants.{NoRoom}
 use Rattle.entry.specs.Inverse.{reason_in}
-use Rattle.layout.specs.Writes.{wrote_over, refused_with}
+use Rattle.layout.specs.Writes.{laid_over}
 use Rattle.layout.proofs.Stores.{laid-over}
-use Rattle.text.specs.Text.{decimal_in, decimal, vote_name, name_of, event_name, heading_fields, reason_fields, then_fields, spaced, line_as, is_older, longest_line, kept, write_line_of}
-use Rattle.text.proofs.Texts.{grown, fields-grown, kept-still}
+use Rattle.text.specs.Text.{decimal_in, decimal, vote_name, name_of, event_name, heading_fields, reason_fields, then_fields, spaced, line_as, longest_line, kept}
+use Rattle.text.proofs.Texts.{grown, fields_grown, kept-still}
 
 -- ---- lengths
 
@@ -124,7 +122,7 @@ module _ (e : Event) (l l₁ : List ℕ) (p : l₁ ≡ kept (l ++ spaced (event_
     applied-behind =
         record {
           short = le_trans (event-fields e (decimal number ∷ []) 11 (number-field number)) (lit≤ tt);
-          grown = fields-grown (event_name e ∷ decimal (amount_of e) ∷ []) (decimal number ∷ []) l l₁ l₂ p q;
+          grown = fields_grown (event_name e ∷ decimal (amount_of e) ∷ []) (decimal number ∷ []) l l₁ l₂ p q;
         }
 
     -- and a reason behind the number: a byte has three digits at most
@@ -133,7 +131,7 @@ module _ (e : Event) (l l₁ : List ℕ) (p : l₁ ≡ kept (l ++ spaced (event_
     reason-behind reason m h r =
         record {
           short = event-fields e (decimal number ∷ decimal reason ∷ []) 15 (spaced-length (decimal number) (decimal reason ∷ []) 10 4 (places-length 10 number) (reason-length false Rejected reason h));
-          grown = fields-grown (event_name e ∷ decimal (amount_of e) ∷ decimal number ∷ []) (decimal reason ∷ []) l l₂ m applied-behind.grown r;
+          grown = fields_grown (event_name e ∷ decimal (amount_of e) ∷ decimal number ∷ []) (decimal reason ∷ []) l l₂ m applied-behind.grown r;
         }
 
 pub noted-behind : (xs l : List ℕ) → l ≡ kept xs → Behind l l []
@@ -156,7 +154,7 @@ module _ (account : ℕ) (e : Entry) where
       let s = decimal e.filed.second ∷ [] in
       let first : l₁ ≡ kept ([] ++ name_of e.told) = rw p₀ at p₁ in
       grown (name_of e.told) (spaced (t ++ (a ++ s))) [] l₁ l₄ first
-      (fields-grown t (a ++ s) l₁ l₂ l₄ p₂ (fields-grown a s l₂ l₃ l₄ p₃ p₄))
+      (fields_grown t (a ++ s) l₁ l₂ l₄ p₂ (fields_grown a s l₂ l₃ l₄ p₃ p₄))
 
   -- the rest, and the newline: the line is no longer than the longest
   pub line-grown : (older : Bool) (l₄ l₅ l₆ : List ℕ) → account < 65536
@@ -170,18 +168,6 @@ module _ (account : ℕ) (e : Entry) where
       let line : first ++ (rest ++ (10 ∷ [])) ≡ line_as older account e = append_assoc (name_of e.told) (spaced (heading_fields e.transaction account e.filed)) (rest ++ (10 ∷ [])) in
       all ∙ rw line (take_all longest_line (line_as older account e) (line-length older account e h q.short))
 
--- ---- the ways out
-
-pub write-small : (e : Entry) (kind account : ℕ) (l : List ℕ) → length l < longest_line → write_line_of e kind account l ≡ refused_with NoRoom l
-unfolding write_line_of
-write-small e kind account l h = rw (lt-ltb (length l) longest_line h)
-
--- and where it has room it is what the writer gives
-pub write-line : (e : Entry) (kind account d : ℕ) (l l₁ : List ℕ) → longest_line ≤ length l → d ≤ longest_line
-    → d ≡ length (line_as (is_older kind) account e) → l₁ ≡ sets l 0 (line_as (is_older kind) account e)
-    → (Ok d ≡ (write_line_of e kind account l).answer) × (l₁ ≡ (write_line_of e kind account l).buffer)
-unfolding write_line_of
-write-line e kind account d l l₁ room short size stored =
-    let line = line_as (is_older kind) account e in
-    let t : write_line_of e kind account l ≡ wrote_over line l = rw (le-ltb (length l) longest_line room) in
-    (rw (t, size), rw t (stored ∙ laid-over line l (omega arith)))
+-- where a line has room it is laid over the buffer
+pub line_stored : (line l l₁ : List ℕ) → length line ≤ longest_line → longest_line ≤ length l → l₁ ≡ sets l 0 line → l₁ ≡ laid_over line l
+line_stored line l l₁ short room stored = stored ∙ laid-over line l (omega arith)

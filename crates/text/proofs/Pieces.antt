@@ -6,21 +6,19 @@ use native.Mathlib.Nat.{zero-add, le_trans}
 use native.Mathlib.Omega.{arith}
 use mathlib.Core.Path.{◌≡◌, refl, sym, ◌∙◌}
 use mathlib.Core.List.{List, [], ◌∷◌, ◌++◌, append-nil, append_assoc}
-use borrow.Author.Tests.{lt-ltb, le-ltb}
+use borrow.Author.Tests.{le-ltb}
 use lib.Dec.{lit≤}
 use lib.ListN.{length, get_or, take, drop, length-append}
 use lib.Seq.{sets, take_all, take-append_seam, drop-append_seam}
 use Rattle.std.proofs.lemmas.List.{take_more}
 use Rattle.filing.specs.declared.Entry.{Entry}
 use Rattle.layout.proofs.Stores.{sets_more, laid-over}
-use Rattle.register.specs.declared.Register.{Register}
-use Rattle.register.specs.First.{fresh_register}
 use Rattle.text.specs.declared.program.Served.{Served}
 use Rattle.text.specs.Text.{decimal, spaced, line_of, lines_of, longest_line, kept, Put}
 use Rattle.text.specs.Quoted.{quoted}
-use Rattle.text.specs.Output.{longest_input, first_line, too_long, refused_line, last_line}
-use Rattle.text.specs.Program.{longest_text, begin_text, begin_of, finish_text, TextAtTheBeginning}
-use Rattle.text.proofs.Texts.{grown, fields-grown}
+use Rattle.text.specs.Output.{longest_input, refused_line, last_line}
+use Rattle.text.specs.Program.{finish_text, TextAtTheBeginning}
+use Rattle.text.proofs.Texts.{grown, fields_grown}
 use Rattle.text.proofs.Lines.{places-length}
 
 -- text from the beginning of a buffer on ends at its length
@@ -35,25 +33,12 @@ text-at-the-beginning text most before next after p room =
     (h, rw (laid, n) (take-append_seam text (drop (length text) before)), rw (laid, n) (drop-append_seam text (drop (length text) before)))
 
 -- text that was stored from the beginning of a buffer on
-pub put-stored : (text : List ℕ) (most next : ℕ) (l l₁ : List ℕ) → next ≡ length text → next ≤ most → l₁ ≡ sets l 0 text → Put text 0 most l next l₁
-put-stored text most next l l₁ n h stored = record { place = n ∙ sym (zero-add (length text)); within = omega arith; stored = stored }
+pub put_stored : (text : List ℕ) (most next : ℕ) (l l₁ : List ℕ) → next ≡ length text → next ≤ most → l₁ ≡ sets l 0 text → Put text 0 most l next l₁
+put_stored text most next l l₁ n h stored = record { place = n ∙ sym (zero-add (length text)); within = omega arith; stored = stored }
 
 -- none
 pub put-nothing : (most : ℕ) (l : List ℕ) → Put [] 0 most l 0 l
-put-nothing most l = put-stored [] most 0 l l refl (omega arith) refl
-
--- ---- the beginning
-
-module _ (input l l₁ : List ℕ) (register : Register) (fresh : register ≡ fresh_register) where
-  pub begins : length input ≤ longest_input → l₁ ≡ sets l 0 (quoted "register 1\n")
-      → (◌≡◌ {A = Served} (record { register = register; from = 0; met = 0; refused = 0; written = 11 }) (begin_of input)) × Put (begin_text input) 0 20 l 11 l₁
-  unfolding first_line quoted
-  begins h stored = rw (le-ltb longest_input (length input) h) (rw fresh, put-stored (quoted "register 1\n") 20 11 l l₁ refl (lit≤ tt) stored)
-
-  pub begins-long : longest_input < length input → l₁ ≡ sets l 0 (quoted "register 1\ntoo long\n")
-      → (◌≡◌ {A = Served} (record { register = register; from = length input; met = 0; refused = 0; written = 20 }) (begin_of input)) × Put (begin_text input) 0 20 l 20 l₁
-  unfolding first_line too_long quoted
-  begins-long h stored = rw (lt-ltb longest_input (length input) h) (rw fresh, put-stored (quoted "register 1\ntoo long\n") 20 20 l l₁ refl (lit≤ tt) stored)
+put-nothing most l = put_stored [] most 0 l l refl (omega arith) refl
 
 -- ---- a refusal, and the last line: a word, numbers, and the newline
 
@@ -62,7 +47,7 @@ pub word-line : (word : List ℕ) (fields : List (List ℕ)) (l₀ l₁ l₂ l�
 word-line word fields l₀ l₁ l₂ l₃ p₀ p₁ p₂ p₃ short =
     let first : l₁ ≡ kept ([] ++ word) = rw p₀ at p₁ in
     let all : l₃ ≡ kept ([] ++ (word ++ (spaced fields ++ (10 ∷ [])))) =
-        grown word (spaced fields ++ (10 ∷ [])) [] l₁ l₃ first (grown (spaced fields) (10 ∷ []) l₁ l₂ l₃ p₂ p₃) in
+    grown word (spaced fields ++ (10 ∷ [])) [] l₁ l₃ first (grown (spaced fields) (10 ∷ []) l₁ l₂ l₃ p₂ p₃) in
     all ∙ take_all longest_line (word ++ (spaced fields ++ (10 ∷ []))) short
 
 pub refusal-length : (number : ℕ) → length (refused_line number) ≤ 19
@@ -73,27 +58,27 @@ pub last-length : (met refused : ℕ) → length (last_line met refused) ≤ 26
 unfolding last_line quoted
 last-length met refused = let m = places-length 10 met in let n = places-length 10 refused in simp length-append (omega arith)
 
-module _ (l₀ l₁ l₂ l₃ : List ℕ) (p₀ : l₀ ≡ []) where
-  pub refusal-line : (number : ℕ) → l₁ ≡ kept (l₀ ++ quoted "refused") → l₂ ≡ kept (l₁ ++ spaced (decimal number ∷ [])) → l₃ ≡ kept (l₂ ++ 10 ∷ []) → l₃ ≡ refused_line number
-  unfolding refused_line quoted
-  refusal-line number p₁ p₂ p₃ = word-line (quoted "refused") (decimal number ∷ []) l₀ l₁ l₂ l₃ p₀ p₁ p₂ p₃ (le_trans (refusal-length number) (lit≤ tt))
+-- the letters of the words stand here as in the code
+pub refusal_grown : (number : ℕ) (l₀ l₁ l₂ l₃ : List ℕ) → l₀ ≡ [] → l₁ ≡ kept (l₀ ++ (114 ∷ 101 ∷ 102 ∷ 117 ∷ 115 ∷ 101 ∷ 100 ∷ [])) → l₂ ≡ kept (l₁ ++ spaced (decimal number ∷ []))
+    → l₃ ≡ kept (l₂ ++ 10 ∷ []) → (l₃ ≡ refused_line number) × (length (refused_line number) ≤ 19)
+unfolding refused_line quoted
+refusal_grown number l₀ l₁ l₂ l₃ p₀ p₁ p₂ p₃ =
+    let short = refusal-length number in
+    (word-line (quoted "refused") (decimal number ∷ []) l₀ l₁ l₂ l₃ p₀ p₁ p₂ p₃ (le_trans short (lit≤ tt)), short)
 
-  pub last-line : (met refused : ℕ) (l : List ℕ) → l₁ ≡ kept (l₀ ++ quoted "end") → l ≡ kept (l₁ ++ spaced (decimal met ∷ [])) → l₂ ≡ kept (l ++ spaced (decimal refused ∷ []))
-      → l₃ ≡ kept (l₂ ++ 10 ∷ []) → l₃ ≡ last_line met refused
-  unfolding last_line quoted
-  last-line met refused l p₁ q r p₃ =
-      word-line (quoted "end") (decimal met ∷ decimal refused ∷ []) l₀ l₁ l₂ l₃ p₀ p₁ (fields-grown (decimal met ∷ []) (decimal refused ∷ []) l₁ l l₂ q r) p₃
-      (le_trans (last-length met refused) (lit≤ tt))
+pub last-line : (met refused : ℕ) (l₀ l₁ l l₂ l₃ : List ℕ) → l₀ ≡ [] → l₁ ≡ kept (l₀ ++ (101 ∷ 110 ∷ 100 ∷ [])) → l ≡ kept (l₁ ++ spaced (decimal met ∷ []))
+    → l₂ ≡ kept (l ++ spaced (decimal refused ∷ [])) → l₃ ≡ kept (l₂ ++ 10 ∷ []) → l₃ ≡ last_line met refused
+unfolding last_line quoted
+last-line met refused l₀ l₁ l l₂ l₃ p₀ p₁ q r p₃ =
+    word-line (quoted "end") (decimal met ∷ decimal refused ∷ []) l₀ l₁ l₂ l₃ p₀ p₁ (fields_grown (decimal met ∷ []) (decimal refused ∷ []) l₁ l l₂ q r) p₃
+    (le_trans (last-length met refused) (lit≤ tt))
 
 module _ (s : Served) (input : List ℕ) where
   pub finishes : (next : ℕ) (l l₁ : List ℕ) → length input ≤ longest_input → next ≡ length (last_line s.met s.refused) → l₁ ≡ sets l 0 (last_line s.met s.refused)
       → Put (finish_text s input) 0 26 l next l₁
   finishes next l l₁ h n stored =
       let fits = last-length s.met s.refused in
-      rw (le-ltb longest_input (length input) h) (put-stored (last_line s.met s.refused) 26 next l l₁ n (omega arith) stored)
-
-  pub finishes-long : (l : List ℕ) → longest_input < length input → Put (finish_text s input) 0 26 l 0 l
-  finishes-long l h = rw (lt-ltb longest_input (length input) h) (put-nothing 26 l)
+      rw (le-ltb longest_input (length input) h) (put_stored (last_line s.met s.refused) 26 next l l₁ n (omega arith) stored)
 
 -- ---- the lines of a call
 
@@ -126,9 +111,3 @@ module _ (entries : List Entry) (account : ℕ) (before after : List ℕ) (at i 
         place = rw (more, length-append) (omega (arith, u.place, n));
         stored = rw more (sets_more done line before after after' 0 at (sym u.place) u.stored (rw (sym (zero-add at)) at stored));
       }
-
-pub lined-all : (entries : List Entry) (account : ℕ) (before after : List ℕ) (at i : ℕ) → length entries ≤ 17 → i ≤ length entries → length entries ≤ i
-    → Lined entries account before after at i → Put (lines_of account entries) 0 longest_text before at after
-lined-all entries account before after at i few passed all u =
-    let these : take i entries ≡ entries = take_all i entries all in
-    put-stored (lines_of account entries) longest_text at before after (rw these at u.place) (omega (arith, u.room)) (rw these at u.stored)

@@ -27,15 +27,18 @@ least-text : (text : List ℕ) (n : ℕ) → take (min (length text) n) text ≡
 least-text text n = rw min_comm (take_min n text)
 
 -- the part of a list that text fills, as far as there is room for it
-pub store-part : (text part l : List ℕ) (at count : ℕ) → at < length l → count ≡ min (length text) (length l - at) → part ≡ take count text
+pub store_part : (text part l : List ℕ) (at count : ℕ) → at < length l → count ≡ min (length text) (length l - at) → part ≡ take count text
     → put_mid at (at + count - at) l part ≡ sets l at text
-store-part text part l at count h least is =
+store_part text part l at count h least is =
     let these = take count text in
     let n : length these ≡ count = length-take-le count text (omega arith) in
     let all : sets l at these ≡ sets l at text = rw (least, least-text text (length l - at)) (sets-within text l at (length l - at) (omega arith)) in
     let laid : sets l at these ≡ take at l ++ these ++ drop (at + count) l = rw n at (sets-eq these l at (omega (arith, n))) in
     put_mid-paste at (at + count - at) l part these count is (omega arith) (sym n)
     ∙ ap (λ (x : List ℕ). take at l ++ x ++ drop (at + count) l) (take_all count these (omega arith)) ∙ sym laid ∙ all
+
+pub store_none : (text l : List ℕ) (at : ℕ) → length l ≤ at → l ≡ sets l at text
+store_none text l at h = sym (sets-out text l at h)
 
 -- ---- growing
 
@@ -55,9 +58,9 @@ pub kept-still : (xs l : List ℕ) → l ≡ kept xs → l ≡ kept (l ++ [])
 kept-still xs l p = rw (append-nil l, p) (sym (take-take longest_line longest_line xs (lit≤ tt)))
 
 -- letters laid behind those that are there, as many as there is room for
-pub letters-put : (letters part line : List ℕ) (size count : ℕ) → length line ≡ longest_line → size ≤ longest_line → count ≡ min (length letters) (longest_line - size) → part ≡ take count letters
+pub letters_put : (letters part line : List ℕ) (size count : ℕ) → length line ≡ longest_line → size ≤ longest_line → count ≡ min (length letters) (longest_line - size) → part ≡ take count letters
     → take (size + count) (put_mid size (size + count - size) line part) ≡ kept (take size line ++ letters)
-letters-put letters part line size count whole h least is =
+letters_put letters part line size count whole h least is =
     let n : length part ≡ count = rw is (length-take-le count letters (omega arith)) in
     let first : length (take size line) ≡ size = length-take-le size line (omega arith) in
     let room : length (take size line) + (longest_line - size) ≡ longest_line = omega arith in
@@ -74,9 +77,14 @@ spaced-append [] ys = refl
 spaced-append (x ∷ xs) ys = rw (spaced-append xs ys) (ap (λ (r : List ℕ). 32 ∷ r) (sym (append_assoc x (spaced xs) (spaced ys))))
 
 -- fields behind fields
-pub fields-grown : (xs ys : List (List ℕ)) (l l₁ l₂ : List ℕ) → l₁ ≡ kept (l ++ spaced xs) → l₂ ≡ kept (l₁ ++ spaced ys) → l₂ ≡ kept (l ++ spaced (xs ++ ys))
-fields-grown xs ys l l₁ l₂ p q = rw (spaced-append xs ys) (grown (spaced xs) (spaced ys) l l₁ l₂ p q)
+pub fields_grown : (xs ys : List (List ℕ)) (l l₁ l₂ : List ℕ) → l₁ ≡ kept (l ++ spaced xs) → l₂ ≡ kept (l₁ ++ spaced ys) → l₂ ≡ kept (l ++ spaced (xs ++ ys))
+fields_grown xs ys l l₁ l₂ p q = rw (spaced-append xs ys) (grown (spaced xs) (spaced ys) l l₁ l₂ p q)
 
 -- a space and a field
-pub field-grown : (field l l₁ l₂ : List ℕ) → l₁ ≡ kept (l ++ 32 ∷ []) → l₂ ≡ kept (l₁ ++ field) → l₂ ≡ kept (l ++ spaced (field ∷ []))
-field-grown field l l₁ l₂ p q = rw (append-nil field) (grown (32 ∷ []) field l l₁ l₂ p q)
+pub field_grown : (field l l₁ l₂ : List ℕ) → l₁ ≡ kept (l ++ 32 ∷ []) → l₂ ≡ kept (l₁ ++ field) → l₂ ≡ kept (l ++ spaced (field ∷ []))
+field_grown field l l₁ l₂ p q = rw (append-nil field) (grown (32 ∷ []) field l l₁ l₂ p q)
+
+-- a space and a field, and another field
+pub event_grown : (name amount l l₁ l₂ l₃ : List ℕ) → l₁ ≡ kept (l ++ 32 ∷ []) → l₂ ≡ kept (l₁ ++ name) → l₃ ≡ kept (l₂ ++ spaced (amount ∷ []))
+    → l₃ ≡ kept (l ++ spaced (name ∷ amount ∷ []))
+event_grown name amount l l₁ l₂ l₃ p q r = fields_grown (name ∷ []) (amount ∷ []) l l₂ l₃ (field_grown name l l₁ l₂ p q) r

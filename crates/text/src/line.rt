@@ -12,6 +12,7 @@ use refusal::Refusal;
 use std::marker::Model;
 
 // Writes the line of an entry as it was found to the beginning of a buffer: of a rejection in kind 18 without a reason.
+#[tactic(auto, using(crate::proofs::Lines::line_stored), unfolding(crate::specs::Text::write_line_of))]
 pub fn write_line(found: Found, buffer: &mut [u8]) -> Result<usize, Refusal>
     ensures answer { result ≡ (write_line_of found.entry found.kind found.account buffer.old).answer }
     ensures buffer { buffer.new ≡ (write_line_of found.entry found.kind found.account buffer.old).buffer }
@@ -24,7 +25,8 @@ pub fn write_line(found: Found, buffer: &mut [u8]) -> Result<usize, Refusal>
     Ok(line.len())
 }
 
-// Stores text from `at` on; a byte past the end is not stored.
+// Stores text from `at` on; a byte past the end is not stored, so that `at` may stand where no part of the buffer begins.
+#[tactic(auto, using(crate::proofs::Texts::store_part, crate::proofs::Texts::store_none))]
 pub(crate) fn store(buffer: &mut [u8], at: usize, text: &[u8])
     ensures { buffer.new ≡ sets buffer.old at text.now }
 {
@@ -61,7 +63,11 @@ impl Line {
         line.put_number(entry.filed.second);
         match entry.told {
             Told::Voted(event, vote) => {
-                let Weighing { verdict, weighed, reason } = vote;
+                let Weighing {
+                    verdict,
+                    weighed,
+                    reason,
+                } = vote;
                 line.put_event(event);
                 line.put_number(weighed);
                 if verdict == Verdict::Rejected && !older {
@@ -79,6 +85,7 @@ impl Line {
         line
     }
 
+    // An empty line.
     pub(crate) fn new() -> Line
         ensures { result ≡ [] }
     {
@@ -88,6 +95,7 @@ impl Line {
         }
     }
 
+    // How many letters it has.
     pub(crate) fn len(&self) -> usize
         ensures length { result ≡ length self.now }
         ensures room { result ≤ longest_line }
@@ -95,12 +103,15 @@ impl Line {
         self.length
     }
 
+    // Its letters.
     pub(crate) fn as_slice(&self) -> &[u8]
         ensures { result.now ≡ self.now }
     {
         &self.letters[..self.length]
     }
 
+    // Letters behind those that it has.
+    #[tactic(auto, using(crate::proofs::Texts::letters_put))]
     pub(crate) fn put(&mut self, letters: &[u8])
         ensures { self.new ≡ kept (self.old ++ letters.now) }
     {
@@ -110,6 +121,7 @@ impl Line {
     }
 
     // A space and a number.
+    #[tactic(auto, using(crate::proofs::Texts::field_grown))]
     pub(crate) fn put_number(&mut self, number: u32)
         ensures { self.new ≡ kept (self.old ++ spaced (decimal number ∷ [])) }
     {
@@ -125,7 +137,7 @@ impl Line {
         self.put_number(u32::from(reason));
     }
 
-    // The digits of a number.
+    // The digits of a number, not by `write!`: that promises its text on `Ok` alone, and nothing says that it comes to `Ok`, while a line is never refused where it has room.
     fn put_decimal(&mut self, number: u32)
         ensures { self.new ≡ kept (self.old ++ decimal number) }
     {
@@ -136,6 +148,7 @@ impl Line {
     }
 
     // An event's name and amount.
+    #[tactic(auto, using(crate::proofs::Texts::event_grown))]
     fn put_event(&mut self, event: Event)
         ensures { self.new ≡ kept (self.old ++ spaced (event_name event ∷ decimal (amount_of event) ∷ [])) }
     {

@@ -26,6 +26,7 @@ pub struct Served {
 }
 
 // The beginning: the first line, and one more where the input is too long, of which nothing is served.
+#[tactic(auto, using(crate::proofs::Pieces::put_stored), unfolding(crate::specs::Output::first_line, crate::specs::Output::too_long, crate::specs::Quoted::quoted))]
 pub fn begin(input: &[u8], out: &mut [u8]) -> Served
     ensures { (result ≡ begin_of input.now) × (Put (begin_text input.now) 0 20 out.old result.written out.new) }
 {

@@ -28,7 +28,10 @@ pub(crate) fn turn(register: &mut Register, bytes: &[u8], out: &mut [u8]) -> Tur
 {
     match sent(register, bytes) {
         Ok((entries, account, consumed)) => Turned {
-            reply: Ok(Taken { consumed, written: 0 }),
+            reply: Ok(Taken {
+                consumed,
+                written: 0,
+            }),
             written: put_lines(out, entries, account),
         },
         Err(refusal) => Turned {
@@ -39,6 +42,7 @@ pub(crate) fn turn(register: &mut Register, bytes: &[u8], out: &mut [u8]) -> Tur
 }
 
 // Reads a message and sends it: its entries, their account, and the length of the message.
+#[tactic(auto, unfolding(crate::specs::Output::turn_at))]
 fn sent(register: &mut Register, bytes: &[u8]) -> Result<(Entries, u16, usize), Refusal>
     ensures register { register.new ≡ (turn_at register.old bytes.now).register }
     ensures answer { Sends result (turn_at register.old bytes.now) }
@@ -49,6 +53,7 @@ fn sent(register: &mut Register, bytes: &[u8]) -> Result<(Entries, u16, usize), 
 }
 
 // Stores the line of a refusal.
+#[tactic(auto, using(crate::proofs::Pieces::refusal_grown, crate::proofs::Pieces::put_stored))]
 fn put_refusal(out: &mut [u8], refusal: Refusal) -> usize
     ensures { Put (refused_line (number_of refusal)) 0 longest_text out.old result out.new }
 {

@@ -1,7 +1,6 @@
 -- Not in order; no such outcome, where something is left of the number; else what the way reached.
 -- Assumes nothing.
 use Rattle.std.proofs.Common.{◌<◌, ◌≤◌, length, sym, ap, ◌∙◌, arith}
-use Rattle.std.proofs.lemmas.List.{length-take-le}
 use Rattle.std.proofs.Math.Seq.{get_or-take}
 use Rattle.filing.specs.Slots.{blank}
 use Rattle.account.specs.declared.question.Reached.{Reached}
@@ -13,8 +12,8 @@ use Rattle.account.proofs.Account.outlook.Goals as goal
 pub returns-then-not-in_order : goal.returns-then-not-in_order
 returns-then-not-in_order c = outlook-order _ c.args.self.now c.args.number (sym c.in_order.ensures ∙ c.if-not-in_order.true)
 
-pub shared_ref_as_front-slot-items : goal.shared_ref_as_front-slot-items
-shared_ref_as_front-slot-items c =
+pub split_at-requires : goal.split_at-requires
+split_at-requires c =
     let few = (clauses panel c.args.self.now (sym c.in_order.ensures ∙ c.if-not-in_order.false)).progressing in
     omega arith
 
@@ -24,8 +23,8 @@ loop-slot-preserved c =
     let v = c.loop-slot in
     let few = (clauses panel a (sym c.in_order.ensures ∙ c.if-not-in_order.false)).progressing in
     let room : a.progressing ≤ length a.progress = omega arith in
-    let below : v.slot-index < a.progressing = omega (arith, length-take-le a.progressing a.progress room) in
-    rw (c.past-reached.ensures, get_or-take a.progressing a.progress v.slot-index blank below) (reached-next panel v.reached a.progressing a.progress v.slot-index below room)
+    let below : v.slot-index < a.progressing = omega (arith, c.split_at.ensures.front_len) in
+    rw (c.past-reached.ensures, c.split_at.ensures.front, get_or-take a.progressing a.progress v.slot-index blank below) (reached-next panel v.reached a.progressing a.progress v.slot-index below room)
     ∙ v.invariant
 
 pub returns-then-reached-gt0 : goal.returns-then-reached-gt0
@@ -33,7 +32,7 @@ returns-then-reached-gt0 c =
     let a = c.args.self.now in
     let v = c.loop-slot in
     let few = (clauses panel a (sym c.in_order.ensures ∙ c.if-not-in_order.false)).progressing in
-    let past : a.progressing ≤ v.slot-index = omega (arith, length-take-le a.progressing a.progress (omega arith)) in
+    let past : a.progressing ≤ v.slot-index = omega (arith, c.split_at.ensures.front_len) in
     let end = reached-end panel v.reached a.progressing a.progress v.slot-index past ∙ v.invariant in
     let left = ap (λ (r : Reached). r.left) end in
     outlook-none panel a c.args.number (sym c.in_order.ensures ∙ c.if-not-in_order.false) (omega (arith, c.if-reached-gt0.true))
@@ -43,7 +42,7 @@ returns c =
     let a = c.args.self.now in
     let v = c.loop-slot in
     let few = (clauses panel a (sym c.in_order.ensures ∙ c.if-not-in_order.false)).progressing in
-    let past : a.progressing ≤ v.slot-index = omega (arith, length-take-le a.progressing a.progress (omega arith)) in
+    let past : a.progressing ≤ v.slot-index = omega (arith, c.split_at.ensures.front_len) in
     let end = reached-end panel v.reached a.progressing a.progress v.slot-index past ∙ v.invariant in
     let left = ap (λ (r : Reached). r.left) end in
     rw end (outlook-there panel a c.args.number (sym c.in_order.ensures ∙ c.if-not-in_order.false) (omega (arith, c.if-reached-gt0.false)))
