@@ -9,9 +9,10 @@ use mathlib.Core.Option.{Option, some}
 use Rattle.std.proofs.lemmas.Bool.Decides.{nat_tests}
 use Rattle.rule.specs.Rule as rule
 use Rattle.events.specs.Events.{reason_byte, reason_from}
+use Rattle.filing.specs.declared.Filed.{Filed}
 use Rattle.filing.specs.declared.Slot.{Slot}
 use Rattle.filing.specs.declared.Weighing.{Weighing}
-use Rattle.filing.specs.Slots.{RuleSlot, slot_of, place_of, blank, is_blank}
+use Rattle.filing.specs.Slots.{RuleSlot, slot_of, place_of, blank_filed, is_blank_filed, blank, is_blank}
 use Rattle.filing.specs.Entries.{weighing_of, weighing_in}
 
 pub slot-place : (x : RuleSlot) → slot_of (place_of x) ≡ x
@@ -37,6 +38,9 @@ weighing-back w = grind (arith, nat_tests)
 
 pub weighing-forth : (w : rule.Weighing) → (w.reason ≡ some 0 → ⊥) → weighing_of (weighing_in w) ≡ w
 weighing-forth w h = grind (arith, nat_tests)
+
+pub blank-filed : (g : Filed) → is_blank_filed g ≡ true → g ≡ blank_filed
+blank-filed g h = grind (arith, nat_tests)
 
 pub blank-place : (x : Slot) → is_blank x ≡ true → x ≡ blank
 blank-place x h = grind (arith, nat_tests)
