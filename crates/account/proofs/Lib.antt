@@ -1,4 +1,5 @@
 pub mod Places
+pub mod Handed
 pub mod Clauses
 pub mod Judged
 pub mod Ranged

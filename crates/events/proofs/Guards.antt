@@ -3,7 +3,8 @@
 use Prim.Native.Nat.{ℕ, ◌≤◌}
 use mathlib.Core.Path.{◌≡◌, sym, ◌∙◌, ap}
 use mathlib.Core.Logic.{◌⊎◌}
-use mathlib.Core.Bool.{true}
+use mathlib.Core.Bool.{true, ◌&&◌, ◌||◌}
+use lib.Dec.{leb, eqb}
 use native.Mathlib.Omega.{arith}
 use Rattle.std.proofs.lemmas.Bool.Decides.{nat_tests}
 use Rattle.events.specs.declared.Event.{Event}
@@ -11,7 +12,7 @@ use Rattle.events.specs.declared.Life.TheVariants.{Opened}
 use Rattle.events.specs.declared.State.{State}
 use Rattle.events.specs.declared.Range.{Range}
 use Rattle.events.specs.declared.condition.Condition.{Condition}
-use Rattle.events.specs.Events.{guard_of, table_effect, effect_of}
+use Rattle.events.specs.Events.{limit, is_opened, state_fits, guard_of, table_effect, effect_of}
 use Rattle.events.specs.Condition.{most, condition_of, takes, holds}
 use Rattle.events.specs.Range.{every_in, joined, moved, range_after, range_perhaps, stored_effect, stored_after, stored_perhaps}
 use Rattle.events.proofs.Against.{guard-table}
@@ -35,6 +36,10 @@ effect-table e s h = rw h
 effect-fits : (e : Event) (s : State) → s.balance ≤ most → guard_of e s ≡ true → (table_effect e s).balance ≤ most
 effect-fits e s h g = let g' = rw (guard-table e s) at g in grind (arith, nat_tests)
 
+-- a state fits that is opened, or has balance 0
+pub fits-same : (s : State) → (leb s.balance limit && (is_opened s.life || eqb s.balance 0)) ≡ state_fits s
+fits-same s = grind (arith, nat_tests)
+
 -- what an event whose guard holds in all states of a range does to the lowest and to the highest balance fits in four bytes
 moved-fits : (e : Event) (x : Range) → x.lowest ≤ x.highest → x.highest ≤ most → every_in e x ≡ true
     → ((moved e x.lowest).balance ≤ most) × ((moved e x.highest).balance ≤ most)
@@ -45,8 +50,8 @@ stored-table : (e : Event) (s : State) → (table_effect e s).balance ≤ most �
 stored-table e s h = grind (arith, nat_tests)
 
 -- so the effect is, where the guard holds,
-pub stored-effect : (e : Event) (s : State) → s.balance ≤ most → guard_of e s ≡ true → stored_effect e s ≡ effect_of e s
-stored-effect e s h g = stored-table e s (effect-fits e s h g) ∙ sym (effect-table e s g)
+pub effect_stored : (e : Event) (s : State) → s.balance ≤ most → guard_of e s ≡ true → stored_effect e s ≡ effect_of e s
+effect_stored e s h g = stored-table e s (effect-fits e s h g) ∙ sym (effect-table e s g)
 
 -- and so is a range in which the guard holds everywhere
 module _ (e : Event) (x : Range) (h : x.lowest ≤ x.highest) (k : x.highest ≤ most) (all : every_in e x ≡ true) where

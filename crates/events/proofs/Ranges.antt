@@ -1,17 +1,18 @@
 -- Ranges of states, put together: the range of a list is that of its first joined with that of the others, and of two lists joined; a condition that goes one way holds in every
 -- state of both exactly if it does in each, and in some exactly if in one; an event whose guard holds moves both alike. Then by induction on the states.
 -- Assumes nothing.
-use Prim.Native.Nat.{ℕ, ◌≤◌, min, max}
+use Prim.Native.Nat.{ℕ, ◌≤◌, min}
 use mathlib.Core.Path.{◌≡◌, refl}
 use mathlib.Core.Bool.{Bool, true, false, cond, ◌&&◌, ◌||◌}
-use mathlib.Core.List.{List, [], ◌∷◌, map}
+use mathlib.Core.List.{List, [], ◌∷◌}
 use native.Mathlib.Omega.{arith}
+use lib.Dec.{ltb}
+use lib.ListN.{length}
+use borrow.Author.Tests.{lt-ltb}
 use Rattle.std.proofs.lemmas.Bool.Decides.{nat_tests}
-use Rattle.rule.specs.Lists.{some_of, keep}
+use Rattle.rule.specs.Lists.{some_of}
 use Rattle.events.specs.declared.Event.{Event}
 use Rattle.events.specs.declared.Event.TheVariants.{Open, Withdraw, Deposit, Close}
-use Rattle.events.specs.declared.Life.{Life}
-use Rattle.events.specs.declared.Life.TheVariants.{New, Opened, Closed}
 use Rattle.events.specs.declared.State.{State}
 use Rattle.events.specs.declared.Range.{Range}
 use Rattle.events.specs.declared.condition.Condition.{Condition}
@@ -100,42 +101,19 @@ module _ (x y : Range) (some_x : Some x) (some_y : Some y) where
 pub after_one : (e : Event) (s : State) → guard_of e s ≡ true → range_after e (range_of_one s) ≡ range_of_one (effect_of e s)
 after_one e s g = let g' = rw (guard-table e s) at g in rw (effect-table e s g) (grind (arith, nat_tests))
 
--- whether there is a number
-abbrev Counted : Bool → List ℕ → Type 0
-Counted true [] = ⊥
-Counted true (n ∷ ns) = Unit {0}
-Counted false [] = Unit {0}
-Counted false (n ∷ ns) = ⊥
+-- some one is opened exactly if there is a balance of an opened one
+counted-one : (s : State) (ss : List State) → some_of (λ (t : State). is_opened t.life) ss ≡ ltb 0 (length (opened_balances ss))
+    → some_of (λ (t : State). is_opened t.life) (s ∷ ss) ≡ ltb 0 (length (opened_balances (s ∷ ss)))
+counted-one s ss h = grind (arith, nat_tests)
 
-counted : (ss : List State) → Counted (some_of (λ (s : State). is_opened s.life) ss) (opened_balances ss)
-counted [] = tt
-counted (s ∷ ss) = go s.life (counted ss)
-  where
-    go : (l : Life) → Counted (some_of (λ (s' : State). is_opened s'.life) ss) (opened_balances ss)
-        → Counted (is_opened l || some_of (λ (s' : State). is_opened s'.life) ss) (map (λ (s' : State). s'.balance) (cond (is_opened l) (s ∷ keep (λ (s' : State). is_opened s'.life) ss) (keep (λ (s' : State). is_opened s'.life) ss)))
-    go New h = h
-    go Opened h = tt
-    go Closed h = h
+counted : (ss : List State) → some_of (λ (s : State). is_opened s.life) ss ≡ ltb 0 (length (opened_balances ss))
+counted [] = refl
+counted (s ∷ ss) = counted-one s ss (counted ss)
+
+lowest_more : (b : ℕ) (bs : List ℕ) → lowest_of (b ∷ bs) ≡ cond (ltb 0 (length bs)) (min b (lowest_of bs)) b
+lowest_more b [] = refl
+lowest_more b (m ∷ ms) = rw (lt-ltb 0 (length (m ∷ ms)) (omega arith)) refl
 
 pub range_cons : (s : State) (ss : List State) → range_of (s ∷ ss) ≡ joined (range_of_one s) (range_of ss)
 unfolding range_of
-range_cons s ss = go s.life
-  where
-    b : ℕ
-    b = s.balance
-
-    -- some one is opened exactly if there is a balance of an opened one
-    low : (o : Bool) (bs : List ℕ) → Counted o bs → lowest_of (b ∷ bs) ≡ cond o (min b (lowest_of bs)) b
-    low true (m ∷ bs) h = refl
-    low false [] h = refl
-    low true [] h = absurd h
-    low false (m ∷ bs) h = absurd h
-
-    rest : (h : ℕ) → h ≡ max 0 h
-    rest h = omega arith
-
-    go : (l : Life) → range_of (record { life = l; balance = b } ∷ ss) ≡ joined (range_of_one (record { life = l; balance = b })) (range_of ss)
-    go New = λ i. record { lowest = (range_of ss).lowest; highest = rest (range_of ss).highest i; new = true; opened = (range_of ss).opened; closed = (range_of ss).closed }
-    go Opened =
-        λ i. record { lowest = low (range_of ss).opened (opened_balances ss) (counted ss) i; highest = max b (range_of ss).highest; new = (range_of ss).new; opened = true; closed = (range_of ss).closed }
-    go Closed = λ i. record { lowest = (range_of ss).lowest; highest = rest (range_of ss).highest i; new = (range_of ss).new; opened = (range_of ss).opened; closed = true }
+range_cons s ss = let low = lowest_more s.balance (opened_balances ss) in let some = counted ss in grind (arith, nat_tests)

@@ -44,6 +44,7 @@ impl Range {
     }
 
     // Whether the guard holds in every outcome: no life occurs but the one that it asks, and it takes all balances.
+    // Here and below `&` and `|` ask all tests with no branch between them.
     pub fn every(self, event: Event) -> bool
         ensures { result ≡ every_in event self }
     {

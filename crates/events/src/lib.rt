@@ -37,6 +37,7 @@ pub struct State {
 }
 
 // What is known of many states at a glance: the lowest and the highest balance among the opened ones, 0 where none is, and which lives occur.
+// The lives stay three fields: `GlanceHolds` and the rows of `Literal` name them one by one.
 #[derive(Clone, Copy, Drop)]
 pub struct Range {
     pub lowest: u32,
@@ -77,7 +78,7 @@ impl Event {
     }
 
     // The state after the event; the same state where its guard fails.
-    #[tactic(auto, unfolding(crate::specs::Events::effect_of))]
+    #[tactic(auto, using(crate::proofs::Guards::effect_stored), unfolding(crate::specs::Events::effect_of))]
     pub fn effect(self, state: State) -> State
         ensures { result ≡ effect_of self state }
     {
@@ -113,6 +114,7 @@ impl Event {
     }
 
     // The kind of the event in messages and entries.
+    // A variant with an amount has no number of its own that `as` would give.
     pub fn kind(self) -> u8
         ensures { result ≡ event_kind self }
     {

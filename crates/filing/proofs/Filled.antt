@@ -7,7 +7,7 @@ use mathlib.Core.List.{List, [], ◌∷◌, ◌++◌, map, append_assoc}
 use native.Mathlib.Omega.{arith}
 use lib.ListN.{length, take, drop, set, replicate, length-append, length-map, length-replicate}
 use lib.Seq.{take_at, drop_at, set_at}
-use Rattle.rule.proofs.Lists.{map-append}
+use Rattle.std.proofs.lemmas.List.{map-append}
 
 module _ {X A : Type 0} (f : X → A) (b : A) (size : ℕ) (xs : List X) where
   abbrev pub filled : List A

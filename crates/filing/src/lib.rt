@@ -38,6 +38,7 @@ pub enum Verdict {
 }
 
 // A decision, the number of outcomes weighed for it, and the reason of a rejection, 0 for any other.
+// The reason stays a number beside the verdict: `EntryForm` and `WeighingForm` hold for every number there.
 #[derive(Clone, Copy, PartialEq, Eq, Drop)]
 pub struct Weighing {
     pub verdict: Verdict,
@@ -63,6 +64,7 @@ pub struct Entry {
 }
 
 // The entries of one call, in the order in which they were written: the first `count` places; the others are blank.
+// Memory is fixed: an array with a count, both of which `EntriesForm` names.
 #[derive(Clone, Copy, PartialEq, Eq, Drop)]
 pub struct Entries {
     pub at: [Entry; Entries::MOST],

@@ -8,28 +8,21 @@ use mathlib.Core.List.{List, ◌++◌}
 use borrow.Author.Tests.{le-leb, leb-true, leb-false, lt-leb}
 use lib.Dec.{leb}
 use lib.ListN.{length, get_or, take, drop, length-drop, take-append-drop, get_or-append}
-use lib.Seq.{drop-append-le, length-take-le, take_all}
+use lib.Seq.{drop-append-le, take-append-le, length-take-le, take_all}
 use Rattle.filing.specs.Slots.{places}
-use Rattle.image.specs.Words.{event_place, amount_place, decision_place, place_words, head_words, row_words, account_words}
-use Rattle.image.specs.Reading.{filed_from, slot_from, is_slot, slots_from, are_slots, is_account, fields_from, no_account, account_from}
+use Rattle.image.specs.Words.{place_words, head_words, row_words, account_words}
+use Rattle.image.specs.Reading.{slot_from, is_slot, slots_from, are_slots, is_account, fields_from, no_account, account_from}
 use Rattle.image.specs.Images.{OwnWords}
+use Rattle.image.proofs.Rows.{slot-first, is-slot-first}
 
 -- ---- a place
 
 module _ (own rest : List ℕ) (h : place_words ≤ length own) where
-  word-own : (i : ℕ) → i < place_words → get_or (own ++ rest) i 0 ≡ get_or own i 0
-  word-own i k = get_or-append own rest 0 i (omega arith)
-
-  filed-own : filed_from (drop 1 (own ++ rest)) ≡ filed_from (drop 1 own)
-  filed-own = rw (drop-append-le 1 own rest (omega arith)) (ap (λ (n : ℕ). record { second = n }) (get_or-append (drop 1 own) rest 0 0 (omega (arith, length-drop 1 own))))
-
   slot-own : slot_from (own ++ rest) ≡ slot_from own
-  unfolding slot_from
-  slot-own = rw (word-own 0 (omega arith), filed-own, word-own event_place (omega arith), word-own amount_place (omega arith), word-own decision_place (omega arith)) refl
+  slot-own = sym (slot-first (own ++ rest)) ∙ ap slot_from (take-append-le place_words own rest h) ∙ slot-first own
 
   is-slot-own : is_slot (own ++ rest) ≡ is_slot own
-  unfolding is_slot
-  is-slot-own = rw (word-own event_place (omega arith), word-own amount_place (omega arith), word-own decision_place (omega arith)) refl
+  is-slot-own = sym (is-slot-first (own ++ rest)) ∙ ap is_slot (take-append-le place_words own rest h) ∙ is-slot-first own
 
 -- ---- a row
 

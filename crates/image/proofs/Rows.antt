@@ -53,9 +53,9 @@ module _ (words : List ℕ) where
   own : (i : ℕ) → i < place_words → get_or (take place_words words) i 0 ≡ get_or words i 0
   own i h = get_or-take place_words words i 0 h
 
-  slot-own : slot_from (take place_words words) ≡ slot_from words
+  pub slot-first : slot_from (take place_words words) ≡ slot_from words
   unfolding slot_from
-  slot-own =
+  slot-first =
       rw (
         own 0 (omega arith),
         get_or-drop 1 (take place_words words) 0 0,
@@ -67,9 +67,9 @@ module _ (words : List ℕ) where
       )
       refl
 
-  is-slot-own : is_slot (take place_words words) ≡ is_slot words
+  pub is-slot-first : is_slot (take place_words words) ≡ is_slot words
   unfolding is_slot
-  is-slot-own = rw (own event_place (omega arith), own amount_place (omega arith), own decision_place (omega arith)) refl
+  is-slot-first = rw (own event_place (omega arith), own amount_place (omega arith), own decision_place (omega arith)) refl
 
 chunks-read : (n k : ℕ) (words : List ℕ) → n ≤ k
     → (map slot_from (take n (first_chunks place_words k words)) ≡ slots_from n words) × (every is_slot (take n (first_chunks place_words k words)) ≡ are_slots n words)
@@ -78,7 +78,7 @@ chunks-read zero k words h = (refl, refl)
 chunks-read (suc n) zero words h = absurd (omega arith)
 chunks-read (suc n) (suc k) words h =
     let rest = chunks-read n k (drop place_words words) (omega arith) in
-    (rw (slot-own words, rest.0) refl, rw (is-slot-own words, rest.1) refl)
+    (rw (slot-first words, rest.0) refl, rw (is-slot-first words, rest.1) refl)
 
 -- so many, and as many more
 rows-split : (n m : ℕ) (words : List ℕ)

@@ -1,6 +1,7 @@
 // The fields of an account as words, and back: each word reads as something (docs/REGISTER.md, 15.2).
+// Functions, and no From: it asks that one of the two types is this crate's, and neither is.
 ghost use Rattle.std.specs.Prelude.{◌≡◌};
-ghost use Rattle.image.specs.Words.{life_word, event_word, decision_word, count_word, head_of};
+ghost use Rattle.image.specs.Words.{life_word, event_word, count_word, head_of};
 ghost use Rattle.image.specs.Reading.{life_from, event_from, decision_from};
 
 use crate::HEAD_WORDS;
@@ -44,13 +45,6 @@ pub(crate) fn event_of(word: u32, amount: u32) -> Event
     Event::of(word.min(LAST) as u8 + 1, amount)
 }
 
-// The word of a decision.
-pub(crate) fn decision_word(decision: Decision) -> u32
-    ensures { result ≡ decision_word decision }
-{
-    decision as u32
-}
-
 // The decision of a word; of one that is none, as of 1.
 pub(crate) fn decision_of(word: u32) -> Decision
     ensures { result ≡ decision_from word }
@@ -69,8 +63,8 @@ pub(crate) fn count_word(count: usize) -> u32
 }
 
 // The words before the places: life, balance, and the two counts.
-pub(crate) fn head_words(account: Account) -> [u32; HEAD_WORDS]
-    ensures { result ≡ head_of account }
+pub(crate) fn head_words(account: &Account) -> [u32; HEAD_WORDS]
+    ensures { result ≡ head_of account.now }
 {
     [
         life_word(account.state.life),

@@ -42,7 +42,8 @@ const NO_ACCOUNT: Account = Account {
     holding: 0,
 };
 
-// The account whose image begins at `from`. One way out: with another for too few words it was copied, which was tried and costs a quarter more.
+// The account whose image begins at `from`: words and a place, as the definition `account_from` has them, since the words may end before it.
+// One way out: with another for too few words it was copied, which was tried and costs a quarter more.
 pub fn read_account(image: &[u32], from: usize) -> Account
     ensures { result ≡ account_from image.now from }
 {
@@ -77,7 +78,7 @@ pub fn put_used(image: &mut [u32], from: usize, account: Account, progress: usiz
 {
     if has_room(image.len(), from) {
         let at = from + HEAD_WORDS;
-        image[from..at].copy_from_slice(&fields::head_words(account));
+        image[from..at].copy_from_slice(&fields::head_words(&account));
         put_row(
             &mut image[at..],
             &account.progress[..progress.min(Account::PLACES)],

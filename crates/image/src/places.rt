@@ -23,7 +23,7 @@ pub(crate) fn read_place(words: &[u32; PLACE_WORDS]) -> Place
     let event = fields::event_of(word, amount);
     let decision = fields::decision_of(decided);
     let is_event = (fields::event_word(event) == word) & (event.amount() == amount);
-    let is_decision = fields::decision_word(decision) == decided;
+    let is_decision = decision as u32 == decided;
     Place {
         slot: Slot {
             transaction,
@@ -45,6 +45,6 @@ pub(crate) fn place_words(slot: Slot) -> [u32; PLACE_WORDS]
         slot.filed.second,
         fields::event_word(slot.event),
         slot.event.amount(),
-        fields::decision_word(slot.decision),
+        slot.decision as u32,
     ]
 }

@@ -2,7 +2,7 @@
 -- Assumes nothing.
 use Prim.Native.Nat.{ℕ, ◌+◌, ◌*◌, ◌≤◌, ◌<◌}
 use native.Mathlib.Omega.{arith}
-use mathlib.Core.Path.{◌≡◌, refl, ◌∙◌}
+use mathlib.Core.Path.{◌≡◌, ◌∙◌}
 use mathlib.Core.List.{List, map}
 use lib.ListN.{length, get_or, drop}
 use lib.Seq.{sets}
@@ -13,15 +13,11 @@ use Rattle.layout.proofs.Shapes.{put-place, none_left}
 
 -- the numbers before place i are stored, and the next one goes to `to`
 pub record Going (buffer₀ : List ℕ) (at : ℕ) (widths numbers buffer : List ℕ) (to i : ℕ) : Type 0 where
-  pub within : i ≤ 10
   pub near : to ≤ at + 4 * i
   pub size : length buffer ≡ length buffer₀
   pub rest : sets buffer to (written (drop i (map bytes_in widths)) (drop i numbers)) ≡ sets buffer₀ at (written (map bytes_in widths) numbers)
 
 module _ (buffer₀ : List ℕ) (at : ℕ) (widths numbers : List ℕ) where
-  pub going-none : Going buffer₀ at widths numbers buffer₀ at 0
-  going-none = record { within = omega arith; near = omega arith; size = refl; rest = refl }
-
   pub going_next : (buffer next : List ℕ) (to i width : ℕ) → length widths ≡ 10 → length numbers ≡ 10 → i < 10
       → Going buffer₀ at widths numbers buffer to i
       → width ≡ bytes_in (get_or widths i 0) → width ≤ 4 → length next ≡ length buffer
@@ -30,7 +26,6 @@ module _ (buffer₀ : List ℕ) (at : ℕ) (widths numbers : List ℕ) where
   going_next buffer next to i width ws ns below g w most size stored =
       let near = g.near in
       record {
-        within = omega arith;
         near = omega arith;
         size = size ∙ g.size;
         rest = put-place widths numbers buffer next to i width (omega arith) (omega arith) w stored ∙ g.rest;

@@ -1,12 +1,13 @@
 -- Runs of stores: one after the other is one run, in either direction, and a run past the end stores nothing. By induction on the values stored.
 -- Assumes nothing.
-use Prim.Native.Nat.{ℕ, suc, ◌+◌, ◌≤◌, ◌<◌}
+use Prim.Native.Nat.{ℕ, zero, suc, ◌+◌, ◌≤◌, ◌<◌}
 use native.Mathlib.Nat.{add-zero, zero-add, add-suc, suc-add}
 use native.Mathlib.Omega.{arith}
-use mathlib.Core.Path.{◌≡◌, refl, ◌∙◌}
-use mathlib.Core.List.{List, [], ◌∷◌, ◌++◌}
-use lib.ListN.{length, set}
-use lib.Seq.{sets, sets-eq, set_out, set_comm}
+use mathlib.Core.Path.{◌≡◌, refl, ap, sym, ◌∙◌}
+use mathlib.Core.List.{List, [], ◌∷◌, ◌++◌, append-nil, append_assoc}
+use lib.ListN.{length, set, take, drop, length-take, length-drop, take-append-drop, drop_of_length-le}
+use borrow.Rule.Slice.PartMut.{put_mid}
+use lib.Seq.{sets, sets-eq, set_out, set_comm, drop-drop, take_at, take_all}
 use Rattle.layout.specs.Writes.{laid_over}
 
 module _ {ℓ} {A : Type ℓ} where
@@ -27,17 +28,46 @@ module _ {ℓ} {A : Type ℓ} where
   pub sets-before : (x : A) (ys l : List A) (i : ℕ) → set (sets l (suc i) ys) i x ≡ sets l i (x ∷ ys)
   sets-before x ys l i = set_before x ys l i (suc i) (omega arith)
 
-  -- four stores one after the other
-  pub sets-four : (a b c d : A) (l : List A) (i : ℕ) → set (set (set (set l i a) (i + 1) b) (i + 2) c) (i + 3) d ≡ sets l i (a ∷ b ∷ c ∷ d ∷ [])
-  sets-four a b c d l i =
-      let one : i + 1 ≡ suc i = omega arith in
-      let two : i + 2 ≡ suc (suc i) = omega arith in
-      let three : i + 3 ≡ suc (suc (suc i)) = omega arith in
-      rw (one, two, three)
-
   pub sets-out : (vs l : List A) (i : ℕ) → length l ≤ i → sets l i vs ≡ l
   sets-out [] l i h = refl
   sets-out (v ∷ vs) l i h = rw (set_out l i v h) (sets-out vs l (suc i) (omega arith))
+
+  -- a part of a list that stores were made in is that part with the stores
+  take_set : (n : ℕ) (l : List A) (i : ℕ) (v : A) → take n (set l i v) ≡ set (take n l) i v
+  take_set zero l i v = refl
+  take_set (suc n) [] i v = refl
+  take_set (suc n) (x ∷ l) zero v = refl
+  take_set (suc n) (x ∷ l) (suc i) v = ap (◌∷◌ x) (take_set n l i v)
+
+  take-sets : (n : ℕ) (vs l : List A) (i : ℕ) → take n (sets l i vs) ≡ sets (take n l) i vs
+  take-sets n [] l i = refl
+  take-sets n (v ∷ vs) l i = take-sets n vs (set l i v) (suc i) ∙ ap (λ (m : List A). sets m (suc i) vs) (take_set n l i v)
+
+  -- stores behind a front leave it as it is
+  set_behind : (front l : List A) (i : ℕ) (v : A) → set (front ++ l) (length front + i) v ≡ front ++ set l i v
+  set_behind [] l i v = rw zero-add
+  set_behind (x ∷ front) l i v = rw suc-add (ap (◌∷◌ x) (set_behind front l i v))
+
+  sets-behind : (front l vs : List A) (i : ℕ) → sets (front ++ l) (length front + i) vs ≡ front ++ sets l i vs
+  sets-behind front l [] i = refl
+  sets-behind front l (v ∷ vs) i = rw (set_behind front l i v, ← add-suc) (sets-behind front (set l i v) vs (suc i))
+
+-- bytes copied to where there is room for them
+pub stored : (l vs copied : List ℕ) (at k : ℕ) → copied ≡ vs → length vs ≡ k → at + k ≤ length l → put_mid at k l copied ≡ sets l at vs
+stored l vs copied at k e n h = rw (e, sets-eq vs l at (rw n h), n, drop-drop, append_assoc)
+
+-- stores made beside a list, over a copy of its end, and copied back
+pub stored-beside : (l vs copy rest copied : List ℕ) (at k : ℕ) → at + k ≡ length l → copy ≡ take k (drop at l) → copied ≡ take k (sets (copy ++ rest) 0 vs)
+    → put_mid at k l copied ≡ sets l at vs
+stored-beside l vs copy rest copied at k n c e =
+    let front : length (take at l) ≡ at = rw length-take (omega arith) in
+    let size : length (drop at l) ≡ k = rw length-drop (omega arith) in
+    let back : drop k (drop at l) ≡ [] = rw drop-drop (drop_of_length-le l (omega arith)) in
+    let all : copy ≡ drop at l = c ∙ take_all k (drop at l) (omega arith) in
+    let row : take k (copy ++ rest) ≡ drop at l = rw all (take_at (drop at l) rest k size) in
+    let same : copied ≡ sets (drop at l) 0 vs = e ∙ take-sets k vs (copy ++ rest) 0 ∙ rw row in
+    let moved = rw (take-append-drop, front, add-zero) at (sets-behind (take at l) (drop at l) vs 0) in
+    rw (same, back, append-nil) (sym moved)
 
 -- stores from the beginning of a buffer that has room for them lay them over it
 pub laid-over : (bytes buffer : List ℕ) → length bytes ≤ length buffer → sets buffer 0 bytes ≡ laid_over bytes buffer

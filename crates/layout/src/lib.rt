@@ -2,7 +2,7 @@
 // Every public function takes any buffer and any place: a byte past the end is not stored, and counts as 0 when it is read.
 #![tactic(auto)]
 
-ghost use Rattle.std.specs.Prelude.{◌≡◌, map, length, ◌+◌, ◌≤◌, ◌<◌, ◌^◌};
+ghost use Rattle.std.specs.Prelude.{◌≡◌, ℕ, map, length, slice_index, ◌+◌, ◌≤◌, ◌<◌};
 ghost use Rattle.std.proofs.lemmas.List.Edits.{sets};
 ghost use Rattle.layout.specs.Number.{bytes_of, number_at};
 ghost use Rattle.layout.specs.Fields.{written, numbers_at};
@@ -30,13 +30,6 @@ impl Shape {
         widths: [0; FIELDS],
         whole: 0,
     };
-}
-
-// What a writer answers: the length written, or the number of its refusal.
-#[derive(Clone, Copy, Drop)]
-pub enum Writing {
-    Written(usize),
-    Refused(u8),
 }
 
 // The row of numbers of a heading, with 0 in the places behind it: what is filed is taken apart here.
@@ -68,19 +61,15 @@ pub fn filed_from(numbers: [u32; FIELDS]) -> Filed
 pub fn put_numbers(buffer: &mut [u8], at: usize, widths: [u8; FIELDS], numbers: [u32; FIELDS])
     ensures { buffer.new ≡ sets buffer.old at (written (map bytes_in widths) numbers) }
 {
-    if at < buffer.len() {
-        if LONGEST_ROW <= buffer.len() - at {
-            put_row(buffer, at, widths, numbers);
-            return;
-        }
-        let mut to = at;
-        let mut i = 0;
-        while i < FIELDS {
-            let bytes = bytes_in(widths[i]);
-            put_bytes(buffer, to, bytes, numbers[i]);
-            to += bytes;
-            i += 1;
-        }
+    let room = buffer.len().saturating_sub(at);
+    if LONGEST_ROW <= room {
+        put_row(buffer, at, widths, numbers);
+    } else if 0 < room {
+        // Near the end the row is stored beside the buffer, over a copy of what stands there.
+        let mut row = [0; LONGEST_ROW];
+        row[..room].copy_from_slice(&buffer[at..]);
+        put_row(&mut row, 0, widths, numbers);
+        buffer[at..].copy_from_slice(&row[..room]);
     }
 }
 
@@ -88,14 +77,12 @@ pub fn put_numbers(buffer: &mut [u8], at: usize, widths: [u8; FIELDS], numbers: 
 pub fn read_numbers(bytes: &[u8], widths: [u8; FIELDS]) -> [u32; FIELDS]
     ensures { result ≡ numbers_at (map bytes_in widths) bytes.now 0 }
 {
+    let row = bytes_at(bytes, 0);
     let mut numbers = [0; FIELDS];
     let mut from = 0;
-    let mut i = 0;
-    while i < FIELDS {
-        let width = widths[i];
-        numbers[i] = number(bytes, from, width);
-        from += bytes_in(width);
-        i += 1;
+    for (i, width) in widths.iter().enumerate() {
+        numbers[i] = number(&row, from, *width);
+        from += bytes_in(*width);
     }
     numbers
 }
@@ -110,30 +97,56 @@ pub fn put1(buffer: &mut [u8], at: usize, number: u8)
 }
 
 // The number in the byte at `at`.
+#[tactic(auto, unfolding(crate::specs::Number::number_at))]
 pub fn number1(bytes: &[u8], at: usize) -> u8
     ensures { result ≡ number_at bytes.now at 1 }
 {
-    if at < bytes.len() { bytes[at] } else { 0 }
+    bytes.get(at).copied().unwrap_or(0)
 }
 
 // The number in the 2 bytes from `at` on.
+#[tactic(auto, unfolding(crate::specs::Number::number_at))]
 pub fn number2(bytes: &[u8], at: usize) -> u16
     ensures { result ≡ number_at bytes.now at 2 }
 {
-    by_bytes(bytes, at, 2) as u16
+    u16::from_be_bytes(bytes_at(bytes, at))
 }
 
-// The number in the 4 bytes from `at` on, in one step where all four are there.
+// The number in the 4 bytes from `at` on.
+#[tactic(auto, unfolding(crate::specs::Number::number_at))]
 pub fn number4(bytes: &[u8], at: usize) -> u32
     ensures { result ≡ number_at bytes.now at 4 }
 {
-    if bytes.len() <= at {
-        return 0;
+    u32::from_be_bytes(bytes_at(bytes, at))
+}
+
+// The number of that width from `at` on, with no look at the row's end.
+#[tactic(auto, unfolding(crate::specs::Number::number_at))]
+fn number(row: &[u8; LONGEST_ROW], at: usize, width: u8) -> u32
+    requires { at + 4 ≤ 40 }
+    ensures { result ≡ number_at row.now at (bytes_in width) }
+{
+    match width {
+        0 => 0,
+        1 => row[at] as u32,
+        2 => u16::from_be_bytes([row[at], row[at + 1]]) as u32,
+        _ => u32::from_be_bytes([row[at], row[at + 1], row[at + 2], row[at + 3]]),
     }
-    if 3 < bytes.len() - at {
-        return four(bytes, at);
+}
+
+// The bytes from `at` on, as many as are asked for; a byte past the end is 0.
+fn bytes_at<const COUNT: usize>(bytes: &[u8], at: usize) -> [u8; COUNT]
+    ensures { (i : ℕ) → i < COUNT → slice_index result i ≡ slice_index bytes.now (at + i) }
+{
+    let Some(rest) = bytes.get(at..) else {
+        return [0; COUNT];
+    };
+    if let Some(whole) = rest.first_chunk() {
+        return *whole;
     }
-    by_bytes(bytes, at, 4)
+    let mut found = [0; COUNT];
+    found[..rest.len()].copy_from_slice(rest);
+    found
 }
 
 // How many bytes a number of that width has.
@@ -152,110 +165,38 @@ fn bytes_in(width: u8) -> usize
 const LONGEST_ROW: usize = 4 * FIELDS;
 
 // Stores a row of numbers where there is room for the longest: with no look at the buffer's end, the compiler makes the loop one step a number.
+#[inline(always)]
 fn put_row(buffer: &mut [u8], at: usize, widths: [u8; FIELDS], numbers: [u32; FIELDS])
     requires { at + 40 ≤ length buffer.old }
     ensures { buffer.new ≡ sets buffer.old at (written (map bytes_in widths) numbers) }
 {
     let mut to = at;
-    let mut i = 0;
-    while i < FIELDS {
-        to += put(buffer, to, widths[i], numbers[i]);
-        i += 1;
+    for (i, width) in widths.iter().enumerate() {
+        to += put(buffer, to, *width, numbers[i]);
     }
 }
 
 // Stores a number of that width from `at` on, where there is room for 4 bytes, and answers how many bytes it has.
 fn put(buffer: &mut [u8], at: usize, width: u8, number: u32) -> usize
     requires { at + 4 ≤ length buffer.old }
-    ensures { (result ≡ bytes_in width) × (result ≤ 4) × (buffer.new ≡ sets buffer.old at (bytes_of (bytes_in width) number)) }
+    ensures count { (result ≡ bytes_in width) × (result ≤ 4) }
+    ensures buffer { buffer.new ≡ sets buffer.old at (bytes_of (bytes_in width) number) }
 {
+    let [a, b, c, d] = number.to_be_bytes();
     match width {
         0 => 0,
-        1 => {
-            put_bytes(buffer, at, 1, number);
-            1
-        }
-        2 => {
-            put_bytes(buffer, at, 2, number);
-            2
-        }
-        _ => {
-            put_four(buffer, at, number);
-            4
-        }
+        1 => put_bytes(buffer, at, [d]),
+        2 => put_bytes(buffer, at, [c, d]),
+        _ => put_bytes(buffer, at, [a, b, c, d]),
     }
 }
 
-// Stores the four bytes of a number.
-fn put_four(buffer: &mut [u8], at: usize, number: u32)
-    requires { at + 4 ≤ length buffer.old }
-    ensures { buffer.new ≡ sets buffer.old at (bytes_of 4 number) }
+// Stores bytes from `at` on, where there is room for them, and answers how many they are.
+fn put_bytes<const COUNT: usize>(buffer: &mut [u8], at: usize, bytes: [u8; COUNT]) -> usize
+    requires { at + COUNT ≤ length buffer.old }
+    ensures count { result ≡ COUNT }
+    ensures buffer { buffer.new ≡ sets buffer.old at bytes.entry }
 {
-    buffer[at] = (number / 16777216 % 256) as u8;
-    buffer[at + 1] = (number / 65536 % 256) as u8;
-    buffer[at + 2] = (number / 256 % 256) as u8;
-    buffer[at + 3] = (number % 256) as u8;
-}
-
-// Stores the lowest bytes of a number, as many as the width says, from the last to the first.
-fn put_bytes(buffer: &mut [u8], at: usize, width: usize, number: u32)
-    requires { width ≤ 4 }
-    ensures { buffer.new ≡ sets buffer.old at (bytes_of width number) }
-{
-    if at < buffer.len() {
-        let mut rest = number;
-        let mut left = width;
-        while 0 < left {
-            left -= 1;
-            put1(buffer, at + left, (rest % 256) as u8);
-            rest = rest / 256;
-        }
-    }
-}
-
-// The number of that width from `at` on.
-fn number(bytes: &[u8], at: usize, width: u8) -> u32
-    ensures { result ≡ number_at bytes.now at (bytes_in width) }
-{
-    match width {
-        0 => 0,
-        1 => by_bytes(bytes, at, 1),
-        2 => by_bytes(bytes, at, 2),
-        _ => number4(bytes, at),
-    }
-}
-
-// The number in four bytes.
-fn four(bytes: &[u8], at: usize) -> u32
-    requires { at + 4 ≤ length bytes.now }
-    ensures { result ≡ number_at bytes.now at 4 }
-{
-    wide(bytes[at]) * 16777216
-        + wide(bytes[at + 1]) * 65536
-        + wide(bytes[at + 2]) * 256
-        + wide(bytes[at + 3])
-}
-
-// The number in the bytes from `at` on, as many as the width says.
-fn by_bytes(bytes: &[u8], at: usize, width: usize) -> u32
-    requires { width ≤ 4 }
-    ensures { (result ≡ number_at bytes.now at width) × (result < 256 ^ width) }
-{
-    if bytes.len() <= at {
-        return 0;
-    }
-    let mut number = 0;
-    let mut i = 0;
-    while i < width {
-        number = number * 256 + wide(number1(bytes, at + i));
-        i += 1;
-    }
-    number
-}
-
-// A byte as a number of 4 bytes.
-fn wide(byte: u8) -> u32
-    ensures { (result ≡ byte) × (result < 256) }
-{
-    byte as u32
+    buffer[at..at + COUNT].copy_from_slice(&bytes);
+    COUNT
 }

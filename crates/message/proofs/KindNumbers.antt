@@ -3,6 +3,7 @@
 use Prim.Native.Nat.{ℕ, zero, suc, ◌<◌}
 use native.Mathlib.Omega.{arith}
 use mathlib.Core.Path.{◌≡◌, refl, ap}
+use mathlib.Core.Logic.{◌⊎◌, inl, inr}
 use mathlib.Core.Option.{none}
 use borrow.Author.Tests.{ne_eqb}
 use Rattle.std.specs.Prelude.{Result, Ok, Err}
@@ -23,10 +24,10 @@ numbered-back Close = refl
 numbered-back Commit = refl
 numbered-back Abort = refl
 
-none_above : (number : ℕ) → kind_numbered (suc (suc (suc (suc (suc (suc (suc number))))))) ≡ Err UnknownKind
-none_above number =
-    let n = suc (suc (suc (suc (suc (suc (suc number)))))) in
-    rw (ne_eqb n 1 (omega arith), ne_eqb n 2 (omega arith), ne_eqb n 3 (omega arith), ne_eqb n 4 (omega arith), ne_eqb n 5 (omega arith), ne_eqb n 6 (omega arith))
+pub unnumbered : (number : ℕ) → (number ≡ 0) ⊎ (6 < number) → kind_numbered number ≡ Err UnknownKind
+unnumbered number (inl e) = rw e
+unnumbered number (inr h) =
+    rw (ne_eqb number 1 (λ e. omega arith), ne_eqb number 2 (λ e. omega arith), ne_eqb number 3 (λ e. omega arith), ne_eqb number 4 (λ e. omega arith), ne_eqb number 5 (λ e. omega arith), ne_eqb number 6 (λ e. omega arith))
 
 same-kind : (j k : Kind) → ◌≡◌ {A = Result Kind Refusal} (Ok j) (Ok k) → number_in j ≡ number_in k
 same-kind j k e = let f : j ≡ k = cc in ap number_in f
@@ -39,7 +40,7 @@ number-known (suc (suc (suc zero))) kind e = same-kind _ kind e
 number-known (suc (suc (suc (suc zero)))) kind e = same-kind _ kind e
 number-known (suc (suc (suc (suc (suc zero))))) kind e = same-kind _ kind e
 number-known (suc (suc (suc (suc (suc (suc zero)))))) kind e = same-kind _ kind e
-number-known (suc (suc (suc (suc (suc (suc (suc number))))))) kind e = let f : ◌≡◌ {A = Result Kind Refusal} (Err UnknownKind) (Ok kind) = rw (none_above number) at e in cc
+number-known (suc (suc (suc (suc (suc (suc (suc number))))))) kind e = let f : ◌≡◌ {A = Result Kind Refusal} (Err UnknownKind) (Ok kind) = rw (unnumbered (suc (suc (suc (suc (suc (suc (suc number))))))) (inr (omega arith))) at e in cc
 
 pub number_unknown : (number : ℕ) (r : Refusal) → kind_numbered number ≡ Err r → (r ≡ UnknownKind) × (row_of_kind messages number ≡ none)
 unfolding row_of_kind messages
@@ -51,7 +52,7 @@ number_unknown (suc (suc (suc (suc zero)))) r e = (cc, cc)
 number_unknown (suc (suc (suc (suc (suc zero))))) r e = (cc, cc)
 number_unknown (suc (suc (suc (suc (suc (suc zero)))))) r e = (cc, cc)
 number_unknown (suc (suc (suc (suc (suc (suc (suc number))))))) r e =
-    let f : ◌≡◌ {A = Result Kind Refusal} (Err UnknownKind) (Err r) = rw (none_above number) at e in
+    let f : ◌≡◌ {A = Result Kind Refusal} (Err UnknownKind) (Err r) = rw (unnumbered (suc (suc (suc (suc (suc (suc (suc number))))))) (inr (omega arith))) at e in
     (cc, absent messages (suc (suc (suc (suc (suc (suc (suc number))))))) (omega arith))
 
 -- each kind has a length

@@ -18,6 +18,7 @@ use Rattle.message.specs.declared.Message.{Message}
 use Rattle.message.specs.Bytes.{heading_of, length_of_message}
 use Rattle.message.specs.Answers.{said_of_reading, read_of, write_of}
 use Rattle.message.specs.Literal.{ReaderLiteral, WriterLiteral, LiteralHolds}
+use Rattle.message.proofs.KindNumbers.{numbered-back, unnumbered}
 use Rattle.message.proofs.Refusals.{reader-refuses}
 
 -- an answer whose refusal has a number is that refusal
@@ -73,6 +74,7 @@ writer-literal m buffer =
 pub literal-holds : LiteralHolds
 literal-holds =
     record {
+      numbers = record { numbers = refl; back = numbered-back; none = unnumbered };
       kinds = λ h a. record { each = refl; kinds = refl; headings = refl; amounts = refl; lengths = refl; by_kind = refl; taken' = λ m whole. refl };
       heading = λ kind t₁ t₂ t₃ t₄ a₁ a₂ s₁ s₂ s₃ s₄ rest. refl;
       stands =

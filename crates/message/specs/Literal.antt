@@ -8,6 +8,9 @@ use Rattle.refusal.specs.Numbers.{numbered}
 use Rattle.message.specs.declared.Heading.{Heading}
 use Rattle.message.specs.declared.Message.{Message}
 use Rattle.message.specs.declared.Message.TheVariants.{Request, Commit, Abort}
+use Rattle.message.specs.declared.kinds.Kind.{Kind}
+use Rattle.message.specs.declared.kinds.Kind.TheVariants as Kind'
+use Rattle.message.specs.Kinds.{number_in, kind_numbered}
 use Rattle.message.specs.Bytes.{kind_of, heading_of, amount_in, bytes_of_message, length_of_message}
 use Rattle.message.specs.Answers.{read_of, write_of}
 use Rattle.message.specs.Plain.{of_each_kind, length_in, taken, heading_in, Stands}
@@ -22,6 +25,12 @@ pub record KindsLiteral (h : Heading) (a : ℕ) : Type 0 where
   pub lengths : map length_in (Request h (Open a) ∷ Request h (Withdraw a) ∷ Request h (Deposit a) ∷ Request h Close ∷ Commit h ∷ Abort h ∷ []) ≡ 15 ∷ 15 ∷ 15 ∷ 11 ∷ 11 ∷ 11 ∷ []
   pub by_kind : map kind_length (1 ∷ 2 ∷ 3 ∷ 4 ∷ 5 ∷ 6 ∷ []) ≡ 15 ∷ 15 ∷ 15 ∷ 11 ∷ 11 ∷ 11 ∷ []
   pub taken' : (m : Message) (whole : ℕ) → taken m whole ≡ record { refusal = none; consumed = whole; message = some m }
+
+-- the six numbers of kinds, and back; every other number is of no kind
+pub record NumbersLiteral : Type 0 where
+  pub numbers : map number_in (Kind'.Open ∷ Kind'.Withdraw ∷ Kind'.Deposit ∷ Kind'.Close ∷ Kind'.Commit ∷ Kind'.Abort ∷ []) ≡ 1 ∷ 2 ∷ 3 ∷ 4 ∷ 5 ∷ 6 ∷ []
+  pub back : (kind : Kind) → kind_numbered (number_in kind) ≡ Ok kind
+  pub none : (number : ℕ) → (number ≡ 0) ⊎ (6 < number) → kind_numbered number ≡ Err (numbered 2)
 
 -- the heading in the bytes of a message: transaction, account, second
 abbrev pub HeadingLiteral : Type 0
@@ -63,6 +72,7 @@ pub record WriterLiteral (m : Message) (buffer : List ℕ) : Type 0 where
       → write_of m buffer ≡ record { answer = Ok (length (bytes_of_message m)); buffer = bytes_of_message m ++ drop (length (bytes_of_message m)) buffer }
 
 pub record LiteralHolds : Type 0 where
+  pub numbers : NumbersLiteral
   pub kinds : (h : Heading) (a : ℕ) → KindsLiteral h a
   pub heading : HeadingLiteral
   pub stands : (bytes : List ℕ) (h : Heading) (a : ℕ) → StandsLiteral bytes h a

@@ -17,7 +17,7 @@ use Rattle.text.specs.declared.program.Served.{Served}
 use Rattle.text.specs.Text.{decimal, spaced, line_of, lines_of, longest_line, kept, Put}
 use Rattle.text.specs.Quoted.{quoted}
 use Rattle.text.specs.Output.{longest_input, refused_line, last_line}
-use Rattle.text.specs.Program.{finish_text, TextAtTheBeginning}
+use Rattle.text.specs.Program.{longest_text, finish_text, TextAtTheBeginning}
 use Rattle.text.proofs.Texts.{grown, fields_grown}
 use Rattle.text.proofs.Lines.{places-length}
 
@@ -57,6 +57,19 @@ refusal-length number = let n = places-length 10 number in simp length-append (o
 pub last-length : (met refused : ℕ) → length (last_line met refused) ≤ 26
 unfolding last_line quoted
 last-length met refused = let m = places-length 10 met in let n = places-length 10 refused in simp length-append (omega arith)
+
+-- a refusal's word and number, and the newline behind them, are its line
+pub refusal-put : (number a b : ℕ) (l l₁ l₂ : List ℕ) → Put (quoted "refused" ++ spaced (decimal number ∷ [])) 0 18 l a l₁ → Put (10 ∷ []) a 1 l₁ b l₂
+    → Put (refused_line number) 0 longest_text l b l₂
+unfolding refused_line quoted
+refusal-put number a b l l₁ l₂ p q =
+    let text = quoted "refused" ++ spaced (decimal number ∷ []) in
+    rw (← append_assoc (quoted "refused") (spaced (decimal number ∷ [])) (10 ∷ []))
+    record {
+      place = rw length-append (omega (arith, p.place, q.place));
+      within = omega (arith, p.within, q.within);
+      stored = sets_more text (10 ∷ []) l l₁ l₂ 0 (length text) refl p.stored (rw p.place at q.stored);
+    }
 
 -- the letters of the words stand here as in the code
 pub refusal_grown : (number : ℕ) (l₀ l₁ l₂ l₃ : List ℕ) → l₀ ≡ [] → l₁ ≡ kept (l₀ ++ (114 ∷ 101 ∷ 102 ∷ 117 ∷ 115 ∷ 101 ∷ 100 ∷ [])) → l₂ ≡ kept (l₁ ++ spaced (decimal number ∷ []))

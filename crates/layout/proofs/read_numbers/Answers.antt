@@ -1,26 +1,23 @@
 -- What was read and what is left to read are the row.
 -- Assumes nothing.
-use Rattle.std.proofs.Common.{◌≤◌, ◌≡◌, length, refl, ◌∙◌, arith, length-set, append-nil}
+use Rattle.std.proofs.Common.{◌≤◌, length, ◌∙◌, arith, length-set, append-nil, get_or, ap, ℕ}
 use lib.Seq.{take_all}
 use Rattle.layout.specs.Fields.{numbers_at}
+use Rattle.layout.specs.Shapes.{bytes_in}
+use Rattle.layout.proofs.Numbers.{number_at-same}
 use Rattle.layout.proofs.Shapes.{read-place, none_left}
 use Rattle.layout.proofs.read_numbers.Goals as goal
-
-pub loop-i-init : goal.loop-i-init
-loop-i-init c = record { within = omega arith; near = omega arith; places = refl; rest = refl }
 
 pub loop-i-preserved : goal.loop-i-preserved
 loop-i-preserved c =
     let a = c.args in
     let v = c.loop-i in
-    let widths : length a.widths ≡ 10 = omega arith in
     record {
-      within = omega arith;
       near = omega arith;
       places = rw length-set v.invariant.places;
       rest =
           read-place a.widths v.numbers a.bytes.now v.from v.i c.bytes_in-from.result c.number.result (omega arith) (omega arith)
-          c.bytes_in-from.ensures.0 c.number.ensures
+          c.bytes_in-from.ensures.0 (c.number.ensures ∙ number_at-same (bytes_in (get_or a.widths v.i 0)) v.from 40 a.bytes.now c.bytes_at-row.result (omega arith) (λ i h. c.bytes_at-row.ensures i h ∙ ap (λ (k : ℕ). get_or a.bytes.now k 0) (omega arith)))
           ∙ v.invariant.rest;
     }
 
