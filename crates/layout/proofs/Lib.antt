@@ -6,7 +6,6 @@ pub mod Shapes
 pub mod Rows
 pub mod Tables
 pub mod Reading
-pub mod Answers
 pub mod Writes
 pub mod Plain
 pub mod Heading

@@ -3,7 +3,6 @@ pub mod Fields
 pub mod Heading
 pub mod Shapes
 pub mod Reading
-pub mod Answers
 pub mod Writes
 pub mod Inverse
 pub mod Plain

@@ -32,13 +32,6 @@ impl Shape {
     };
 }
 
-// What a writer answers: the length written, or the number of its refusal.
-#[derive(Clone, Copy, Drop)]
-pub enum Writing {
-    Written(usize),
-    Refused(u8),
-}
-
 // The row of numbers of a heading, with 0 in the places behind it: what is filed is taken apart here.
 pub fn heading_numbers(kind: u8, transaction: u32, account: u16, filed: Filed) -> [u32; FIELDS]
     ensures { result ≡ padded (heading_numbers kind transaction account filed) }
