@@ -1,26 +1,22 @@
 -- Whether numbers all differ: those that rise do; and the transactions of two rows, one after the other, differ exactly if those of their slots are apart.
 -- Assumes nothing.
-use Prim.Native.Nat.{ℕ, suc, ◌+◌, ◌<◌, ◌≤◌}
+use Prim.Native.Nat.{ℕ, suc, ◌+◌, ◌<◌}
 use mathlib.Core.Path.{◌≡◌, refl, sym, ap, ap₂, ◌∙◌}
 use mathlib.Core.Bool.{Bool, true, false, not, ◌&&◌, ◌||◌}
-use mathlib.Core.List.{List, [], ◌∷◌, ◌++◌, map, append_assoc}
+use mathlib.Core.List.{List, [], ◌∷◌, ◌++◌, map}
 use native.Mathlib.Omega.{arith}
-use native.Mathlib.Numerals.{add-one}
 use lib.Dec.{eqb}
-use lib.ListN.{length, get_or, take, drop, set, length-set, drop_of_length-le}
-use lib.Seq.{take-suc-set, drop-cons}
-use borrow.Author.Tests.{eqb-true, eqb-false, eq-eqb, ne_eqb}
+use lib.ListN.{length, take}
+use borrow.Author.Tests.{ne_eqb}
 use Rattle.std.proofs.lemmas.List.{take_all}
-use Rattle.std.specs.List.{list_any}
 use Rattle.std.specs.List.Sorted.{IsStrictlyIncreasing}
 use Rattle.rule.specs.Lists.{some_of}
 use Rattle.rule.specs.InOrder.{apart}
 use Rattle.rule.specs.Step.{named}
 use Rattle.rule.proofs.Lists.{map-append}
 use Rattle.filing.specs.declared.Slot.{Slot}
-use Rattle.filing.specs.Slots.{slot_of, blank}
+use Rattle.filing.specs.Slots.{slot_of}
 use Rattle.account.specs.inside.Judged.{both_rows, all_differ}
-use Rattle.account.proofs.Places.{take_more}
 
 -- numbers that rise are above a lower one, and differ
 rising-behind : (t : ℕ) (ts : List ℕ) → IsStrictlyIncreasing (t ∷ ts) → IsStrictlyIncreasing ts
@@ -39,37 +35,6 @@ rising-differ (t ∷ (u ∷ ts)) r =
     let next : t < u = r 0 (omega arith) in
     rw (none-below t u ts next (rising-behind t (u ∷ ts) r)) (rising-differ (u ∷ ts) (rising-behind t (u ∷ ts) r))
 
--- a number is among others, asked in either order
-either-order : (n t : ℕ) → eqb t n ≡ eqb n t
-either-order n t = by (eqb n t) refl
-  where
-    by : (b : Bool) → eqb n t ≡ b → eqb t n ≡ b
-    by true e = eq-eqb t n (sym (eqb-true n t e))
-    by false e = ne_eqb t n (λ k. eqb-false n t e (sym k))
-
-some-among : (n : ℕ) (ts : List ℕ) → list_any (λ (t : ℕ). eqb t n) ts ≡ some_of (eqb n) ts
-some-among n [] = refl
-some-among n (t ∷ ts) = ap₂ (λ (b c : Bool). b || c) (either-order n t) (some-among n ts)
-
--- the number at a place against those behind it, then those behind it among each other
-module _ (ts : List ℕ) (at : ℕ) (h : at < length ts) where
-  abbrev among_behind : Bool
-  among_behind = list_any (λ (t : ℕ). eqb t (get_or ts at 0)) (drop (at + 1) ts)
-
-  differ-at : all_differ (drop at ts) ≡ (not among_behind && all_differ (drop (at + 1) ts))
-  differ-at =
-      ap all_differ (drop-cons ts at 0 h ∙ ap (λ (n : ℕ). get_or ts at 0 ∷ drop n ts) (sym (add-one at)))
-      ∙ ap (λ (b : Bool). not b && all_differ (drop (at + 1) ts)) (sym (some-among (get_or ts at 0) (drop (at + 1) ts)))
-
-  pub differ-not : among_behind ≡ true → false ≡ all_differ (drop at ts)
-  differ-not k = rw (differ-at, k) refl
-
-  pub differ-behind : among_behind ≡ false → all_differ (drop (at + 1) ts) ≡ all_differ (drop at ts)
-  differ-behind k = rw (differ-at, k) refl
-
-pub differ-end : (ts : List ℕ) (at : ℕ) → length ts ≤ at → all_differ (drop at ts) ≡ true
-differ-end ts at h = ap all_differ (drop_of_length-le ts {i = at} h)
-
 -- the transactions noted so far, those before and those of the slots of a row before this one
 abbrev pub transaction_in : Slot → ℕ
 transaction_in x = x.transaction
@@ -77,21 +42,6 @@ transaction_in x = x.transaction
 pub record Noted (before : List ℕ) (row : List Slot) (at count : ℕ) (transactions : List ℕ) : Type 0 where
   pub both : length transactions ≡ both_rows
   pub noted : take count transactions ≡ before ++ map transaction_in (take at row)
-
--- one transaction more is noted
-pub noted_more : (before : List ℕ) (row : List Slot) (at count next : ℕ) (transactions : List ℕ) → at < length row → count < both_rows → next ≡ suc count → Noted before row at count transactions
-    → Noted before row (at + 1) next (set transactions count (get_or row at blank).transaction)
-noted_more before row at count next transactions room small e k =
-    let x = get_or row at blank in
-    record {
-      both = length-set transactions count x.transaction ∙ k.both;
-      noted =
-          ap (λ (n : ℕ). take n (set transactions count x.transaction)) e
-          ∙ take-suc-set transactions count x.transaction (omega (arith, k.both))
-          ∙ ap (λ (l : List ℕ). l ++ (x.transaction ∷ [])) k.noted
-          ∙ append_assoc before (map transaction_in (take at row)) (x.transaction ∷ [])
-          ∙ ap (λ (l : List ℕ). before ++ l) (sym (ap (map transaction_in) (take_more row at blank room) ∙ map-append transaction_in (take at row) (x ∷ [])));
-    }
 
 -- transactions as numbers
 some-transaction : (t : ℕ) (xs : List Slot) → some_of (λ (n : ℕ). eqb t n) (map transaction_in xs) ≡ some_of (named t) (map slot_of xs)

@@ -95,13 +95,6 @@ module _ (R : rule.Rule State Event ℕ) (a : Account) (many : length a.progress
         (progress ∙ row-left a.progress a.progressing (lists_of a).progress events own.progressing) progressing
         (held ∙ row-left a.held a.holding (lists_of a).held requests own.holding) holding
 
-    pub rest-few : (rest.progressing ≤ places) × (rest.holding ≤ places)
-    unfolding lists_of
-    rest-few =
-        let events = progress-row a (lists_of a) own.lists in
-        let requests = held-row a (lists_of a) own.lists in
-        (omega (arith, progressing, fewer (lists_of a).progress, events.count', own.progressing), omega (arith, holding, fewer (lists_of a).held, requests.count', own.holding))
-
     -- an abort, with the slot that was found
     pub abort-settled : refusal R (lists_of a) (rule.abort t g) ≡ none → (found : Slot)
         → keep (named t) (lists_of a).progress ++ keep (named t) (lists_of a).held ≡ slot_of found ∷ []

@@ -1,20 +1,15 @@
 -- The places of a row: the first ones with one more, how many there are, all of them.
 -- Assumes nothing.
 use Prim.Native.Nat.{ℕ, ◌+◌, ◌<◌, ◌≤◌}
-use mathlib.Core.Path.{◌≡◌, refl, sym, ap, ◌∙◌}
-use mathlib.Core.Bool.{false}
+use mathlib.Core.Path.{◌≡◌, ap, ◌∙◌}
 use mathlib.Core.List.{List, [], ◌∷◌, ◌++◌, map}
 use native.Mathlib.Numerals.{add-one}
 use lib.ListN.{length, get_or, take, length-map}
-use borrow.Author.Tests.{ne_eqb}
 use lib.Seq.{take-suc, length-take-le}
 use Rattle.rule.proofs.Lists.{map-append}
 use Rattle.filing.specs.declared.Slot.{Slot}
-use Rattle.filing.specs.Slots.{slot_of, blank}
+use Rattle.filing.specs.Slots.{slot_of}
 use Rattle.std.proofs.lemmas.List.{take_all}
-use Rattle.rule.specs.Lists.{some_of}
-use Rattle.rule.specs.Step.{named}
-use Rattle.rule.proofs.Lists.{some-append}
 use Rattle.account.specs.Places.{used}
 
 module _ (row : List Slot) where
@@ -28,11 +23,6 @@ module _ (row : List Slot) where
     pub count-used : at ≤ length row → length (used row at) ≡ at
     count-used h = length-map (take at row) slot_of ∙ length-take-le at row h
 
--- all of a row, and one slot more that is not a transaction's
+-- all of a row
 pub used-all : (row : List Slot) (at : ℕ) → length row ≤ at → used row at ≡ map slot_of row
 used-all row at h = ap (map slot_of) (take_all at row h)
-
-pub unnamed-more : (t : ℕ) (row : List Slot) (at : ℕ) → at < length row → some_of (named t) (used row at) ≡ false → ((get_or row at blank).transaction ≡ t → ⊥) → some_of (named t) (used row (at + 1)) ≡ false
-unnamed-more t row at h none other =
-    let x = get_or row at blank in
-    rw (used-more row at blank h, some-append (named t) (used row at) (slot_of x ∷ []), none, ne_eqb t x.transaction (λ e. other (sym e))) refl

@@ -3,17 +3,17 @@
 use Prim.Native.Nat.{ℕ, ◌+◌, ◌≤◌, ◌<◌}
 use mathlib.Core.Path.{◌≡◌, refl, sym, ap, ◌∙◌}
 use mathlib.Core.Bool.{not}
-use mathlib.Core.List.{List, [], ◌∷◌, ◌++◌, map, append-nil}
+use mathlib.Core.List.{List, [], ◌∷◌, ◌++◌, append-nil}
 use native.Mathlib.Omega.{arith}
-use lib.ListN.{length, get_or, set, drop, length-append, drop_of_length-le}
+use lib.ListN.{length, get_or, set, length-append}
 use borrow.Author.Tests.{eq-eqb, ne_eqb}
 use Rattle.rule.specs.Step.{named, without}
 use Rattle.rule.proofs.Lists.{keep_append}
 use Rattle.rule.proofs.Apart.{length-keep}
 use Rattle.filing.specs.declared.Slot.{Slot}
 use Rattle.filing.specs.Slots.{RuleSlot, slot_of, blank}
-use Rattle.account.specs.Places.{used, padded}
-use Rattle.account.proofs.Places.{used-more, used-all, count-used}
+use Rattle.account.specs.Places.{used}
+use Rattle.account.proofs.Places.{used-more, count-used}
 use Rattle.account.proofs.Moved.{moved, moved_here, moved-gone, moved-kept}
 
 -- the row then, of which so many places stay
@@ -66,13 +66,3 @@ module _ (t : ℕ) (row : List Slot) where
                 (moved-kept (without t (used row at)) at row (few-left at (omega arith)) x below);
             few = omega (arith, so_far.few);
           }
-
-  -- past the last place the row is that of the list without the transaction
-  pub out-left : (now : List Slot) (left at : ℕ) → at ≡ length row → TakingOut t row now left at
-      → (left ≡ length (without t (map slot_of row))) × (now ≡ padded (length row) (without t (map slot_of row)))
-  out-left now left at end done =
-      let all = used-all row at (omega arith) in
-      let none : drop at row ≡ [] = drop_of_length-le row {i = at} (omega arith) in (
-        rw (← all) done.count,
-        done.now' ∙ ap (λ (l : List Slot). padded at (without t (used row at)) ++ l) none ∙ append-nil (padded at (without t (used row at))) ∙ rw (all, end) refl,
-      )

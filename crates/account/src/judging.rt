@@ -49,6 +49,7 @@ impl Account {
         let (events, unused) = self.progress.split_at(self.progressing);
         let (requests, unused_held) = self.held.split_at(self.holding);
         let outcomes = Outcomes::after(self.state, events);
+        // Each test is made whatever the others say, so that no branch stands between them.
         let in_order = all_blank(unused)
             & all_blank(unused_held)
             & self.state.fits()

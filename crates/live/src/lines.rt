@@ -16,9 +16,6 @@ pub fn write_entry_line(bytes: &[u8], buffer: &mut [u8]) -> Option<Lined>
     ensures buffer { buffer.new ≡ (line_of_entry bytes.now buffer.old).buffer }
 {
     let (found, whole) = entry::read_entry(bytes)?;
-    let length = text::write_line(found, buffer).ok()?;
-    Some(Lined {
-        entry: whole,
-        line: length,
-    })
+    let line = text::write_line(found, buffer).ok()?;
+    Some(Lined { entry: whole, line })
 }

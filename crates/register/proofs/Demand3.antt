@@ -120,7 +120,7 @@ module _ (R : rule.Rule State Event ℕ) (k : Suits R) where
           size = sixteen;
           others = λ i other. refl;
           named = record { lists = h.lists; same = h.same; told = refusal-told R h.lists seen (rule_message m) (number_of n) h.told; fit = h.fit };
-          whole = λ e. let z : ◌≡◌ {A = ℕ} 0 1 = cc in absurd (omega arith);
+          whole = λ e. cc;
         }
 
     kept-taken : (consumed : ℕ) → Free R r m → Kept (taken_as r buffer (heading_of m).account consumed (taking R r m).account (taking R r m).entries)
@@ -158,10 +158,10 @@ module _ (R : rule.Rule State Event ℕ) (k : Suits R) where
       by : (y : Result (Message × ℕ) Refusal) → read_of bytes ≡ y → {x : Called} → Calling R r bytes buffer x
           → Sees x.register (λ (i : ℕ). seen i ++ seen_of i x.reply x.buffer y) × OnlyEntries (record { message = bytes; reply = x.reply; buffer = x.buffer })
       by (Err n) q (refused n' why) =
-          (record { sixteen = h.sixteen; each = λ i l. rw (append-nil (seen i)) (h.each i l) }, λ e. let z : ◌≡◌ {A = ℕ} 0 1 = cc in absurd (omega arith))
+          (record { sixteen = h.sixteen; each = λ i l. rw (append-nil (seen i)) (h.each i l) }, λ e. cc)
       by (Err n) q (taken m consumed t) =
           let y : ◌≡◌ {A = Result (Message × ℕ) Refusal} (Err n) (Ok (m, consumed)) = sym q ∙ t.read in
-          let z : ◌≡◌ {A = ℕ} 0 1 = cc in absurd (omega arith)
+          cc
       by (Ok (m, consumed)) q {x} c =
           (record { sixteen = one.size; each = λ i l. named i l (eqb (heading_of m).account i) refl }, λ e. rw (← account-read bytes m consumed q) (one.whole e))
         where

@@ -108,8 +108,8 @@ module _ (R : rule.Rule State Event ℕ) (k : Suits R) (f : Filed → Filed) whe
       stepped_same : (answer answer' : Rule-Call.Answer Filed Event ℕ) → answer_through f answer ≡ answer_through f answer'
           → SameSent R f (sent_in r i (stepped_by a next answer)) (sent_in r' i (stepped_by a' next' answer'))
       stepped_same (Rule-Call.refused n) (Rule-Call.refused n') e = let z : n ≡ n' = cc in rw z (refused-same (numbered n'))
-      stepped_same (Rule-Call.refused n) (Rule-Call.taken xs') e = let z : ◌≡◌ {A = ℕ} 0 1 = cc in absurd (omega arith)
-      stepped_same (Rule-Call.taken xs) (Rule-Call.refused n') e = let z : ◌≡◌ {A = ℕ} 0 1 = cc in absurd (omega arith)
+      stepped_same (Rule-Call.refused n) (Rule-Call.taken xs') e = cc
+      stepped_same (Rule-Call.taken xs) (Rule-Call.refused n') e = cc
       stepped_same (Rule-Call.taken xs) (Rule-Call.taken xs') e =
           let z : map (entry_through f) xs ≡ map (entry_through f) xs' = cc in
           record {

@@ -39,7 +39,7 @@ use Rattle.register.proofs.Calling.{Calling, refused, taken, calling}
 
 -- a number is not given where no test of that number holds
 never : (n : ℕ) (tests : List Test) → every (λ (t : Test). not (eqb t.number n && t.holds)) tests ≡ true → first_of tests ≡ some n → ⊥
-never n [] h e = let z : ◌≡◌ {A = ℕ} 0 1 = cc in omega arith
+never n [] h e = cc
 never n (t ∷ tests) h e = go t.holds refl e (λ k. never n tests (and_right (not (eqb t.number n && t.holds)) (every (λ (t : Test). not (eqb t.number n && t.holds)) tests) h) k)
   where
     go : (b : Bool) → t.holds ≡ b → cond b (some t.number) (first_of tests) ≡ some n → (first_of tests ≡ some n → ⊥) → ⊥

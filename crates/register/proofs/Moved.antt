@@ -3,7 +3,7 @@
 use Prim.Native.Nat.{ℕ, ◌≤◌, ◌<◌}
 use mathlib.Core.Path.{◌≡◌, refl}
 use mathlib.Core.Logic.{inl, inr}
-use mathlib.Core.Bool.{false, true≢false}
+use mathlib.Core.Bool.{false}
 use mathlib.Core.List.{List, map}
 use native.Mathlib.Omega.{arith}
 use lib.ListN.{length, drop, length-append, length-drop}
@@ -50,7 +50,7 @@ module _ (R : Rule State Event ℕ) (k : Suits R) (r : Register) (bytes buffer :
   moves : {x : Called} → Calling R r bytes buffer x → Moved bytes buffer x.buffer (passed_of x.reply (length_at bytes))
   moves (refused n (inl which)) =
       rw (passed-stops n (length_at bytes) which)
-      (record { size = refl; room = omega arith; stays = refl; once = omega arith; within = omega arith; forward = λ z. absurd (true≢false z) })
+      (record { size = refl; room = omega arith; stays = refl; once = omega arith; within = omega arith; forward = λ z. cc })
   moves (refused n (inr (high, stands))) =
       rw (passed-skips n (length_at bytes) high)
       (record { size = refl; room = omega arith; stays = refl; once = omega arith; within = stands.all_there; forward = λ z. some_bytes stands.whole })

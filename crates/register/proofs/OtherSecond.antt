@@ -253,8 +253,8 @@ module _ (account : ℕ) where
   pub entries-same : (es es' : List Entry) → map forgotten es ≡ map forgotten es' → SameEntries (bytes_of_entries account es) (bytes_of_entries account es')
   unfolding bytes_of_entries
   entries-same [] [] h = nothing_written
-  entries-same [] (e' ∷ es') h = let z : ◌≡◌ {A = ℕ} 0 1 = cc in absurd (omega arith)
-  entries-same (e ∷ es) [] h = let z : ◌≡◌ {A = ℕ} 0 1 = cc in absurd (omega arith)
+  entries-same [] (e' ∷ es') h = cc
+  entries-same (e ∷ es) [] h = cc
   entries-same (e ∷ es) (e' ∷ es') h =
       let head : forgotten e ≡ forgotten e' = cc in
       let tail : map forgotten es ≡ map forgotten es' = cc in

@@ -155,7 +155,7 @@ module _ (R : rule.Rule State Event ℕ) where
   -- of a call that is taken
   own-taken : (r : Register) (bytes buffer : List ℕ) → AreBytes bytes → {x : Called} → Calling R r bytes buffer x → refusal_of x.reply ≡ none
       → OwnEntry bytes (written_of x.reply) x.buffer
-  own-taken r bytes buffer b (refused n why) h = let z : ◌≡◌ {A = ℕ} 0 1 = cc in absurd (omega arith)
+  own-taken r bytes buffer b (refused n why) h = cc
   own-taken r bytes buffer b (taken m whole t) h =
       let a = lists R r m in
       let xs = (taking R r m).entries in

@@ -3,7 +3,7 @@
 -- Assumes nothing.
 use Prim.Native.Nat.{ℕ, zero, suc, ◌≤◌}
 use mathlib.Core.Path.{◌≡◌, refl, sym, ◌∙◌, ap}
-use mathlib.Core.Bool.{Bool, true, false, cond, ◌&&◌, not, true≢false, false≢true}
+use mathlib.Core.Bool.{Bool, true, false, cond, ◌&&◌, not}
 use mathlib.Core.List.{List}
 use native.Mathlib.Omega.{arith}
 use lib.Dec.{eqb, leb, ltb}
@@ -76,8 +76,8 @@ module _ (bytes : List ℕ) where
   whole-known e = go (leb 1 kind_in) (leb kind_in 6) (leb kind_in 3) refl refl refl e
     where
       go : (a b c : Bool) → leb 1 kind_in ≡ a → leb kind_in 6 ≡ b → leb kind_in 3 ≡ c → a && b ≡ true → whole_of (row_of_kind messages kind_in) ≡ cond c 15 11
-      go false b c p q s e = absurd (false≢true e)
-      go true false c p q s e = absurd (false≢true e)
+      go false b c p q s e = cc
+      go true false c p q s e = cc
       go true true true p q s e = with_amount kind_in (leb-true 1 kind_in p) (leb-true kind_in 3 s)
       go true true false p q s e = without_amount kind_in (leb-false kind_in 3 s) (leb-true kind_in 6 q)
 
@@ -85,7 +85,7 @@ module _ (bytes : List ℕ) where
   whole-unknown e = go (leb 1 kind_in) (leb kind_in 6) refl refl e
     where
       go : (a b : Bool) → leb 1 kind_in ≡ a → leb kind_in 6 ≡ b → a && b ≡ false → whole_of (row_of_kind messages kind_in) ≡ 0
-      go true true p q e = absurd (true≢false e)
+      go true true p q e = cc
       go true false p q e = above-kinds kind_in (leb-false kind_in 6 q)
       go false b p q e = below-kinds kind_in (leb-false 1 kind_in p)
 
@@ -126,9 +126,6 @@ module _ (bytes : List ℕ) where
     pub message : m ≡ message_in
     pub length' : consumed ≡ length_by kind_in
 
-  not-message : (n : Refusal) (m : Message) (consumed : ℕ) → ◌≡◌ {A = Result (Message × ℕ) Refusal} (Err n) (Ok (m, consumed)) → ⊥
-  not-message n m consumed e = let z : ◌≡◌ {A = ℕ} 0 1 = cc in omega arith
-
   pub read_as : (m : Message) (consumed : ℕ) → read_of bytes ≡ Ok (m, consumed) → Read m consumed
   read_as m consumed e =
       go (eqb (length bytes) 0) (leb 1 kind_in) (leb kind_in 6) (ltb (length bytes) (length_by kind_in)) (ltb 15 (account_in bytes)) refl refl refl refl (sym reading ∙ e)
@@ -138,11 +135,11 @@ module _ (bytes : List ℕ) where
           (cond (not (b && b')) (Err UnknownKind) (cond c (Err Torn) (cond d (Err UnknownAccount) (Ok (message_in, length_by kind_in)))))
           ≡ Ok (m, consumed)
           → Read m consumed
-      go true b b' c d p q s u e = absurd (not-message Torn m consumed e)
-      go false false b' c d p q s u e = absurd (not-message UnknownKind m consumed e)
-      go false true false c d p q s u e = absurd (not-message UnknownKind m consumed e)
-      go false true true true d p q s u e = absurd (not-message Torn m consumed e)
-      go false true true false true p q s u e = absurd (not-message UnknownAccount m consumed e)
+      go true b b' c d p q s u e = cc
+      go false false b' c d p q s u e = cc
+      go false true false c d p q s u e = cc
+      go false true true true d p q s u e = cc
+      go false true true false true p q s u e = cc
       go false true true false false p q s u e =
           record {
             lowest = leb-true 1 kind_in p;

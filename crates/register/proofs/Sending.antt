@@ -53,7 +53,7 @@ unfolding Rule-Call.call
 answer-number R a m n h = go (Rule-Call.refusal R a m) refl h
   where
     go : (o : Option ℕ) → Rule-Call.refusal R a m ≡ o → (Rule-Call.call_by o a (step R a m)).answer ≡ Rule-Call.refused n → number_of (numbered n) ≡ n
-    go none e h = let z : ◌≡◌ {A = ℕ} 0 1 = cc in absurd (omega arith)
+    go none e h = cc
     go (some k) e h = let z : k ≡ n = cc in rw (← z) (rule-numbers R a m k e).0
 
 module _ (R : rule.Rule State Event ℕ) (r : Register) (m : Message) where

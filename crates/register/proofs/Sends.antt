@@ -44,8 +44,8 @@ module _ (R : Rule State Event ℕ) where
       record {
         refusal = refl;
         register = refl;
-        consumed = λ h. let z : ◌≡◌ {A = ℕ} 0 1 = cc in absurd (omega arith);
-        entries = λ h. let z : ◌≡◌ {A = ℕ} 0 1 = cc in absurd (omega arith);
+        consumed = λ h. cc;
+        entries = λ h. cc;
       }
   wrote-sent r m buffer (taken free) =
       let written = bytes_of_entries (heading_of m).account (list_of (entries_of (taking R r m).entries)) in
@@ -66,7 +66,7 @@ module _ (R : Rule State Event ℕ) where
         i = (heading_of m).account
 
         by : {sent : Sent} → Sending R r m sent → refusal_in sent.answer ≡ none → entries_in (bytes_of_entries i (list_of (steps.entries_in sent.answer))) ≡ map rule_entry (list_of (steps.entries_in sent.answer))
-        by (refused n high) h = let z : ◌≡◌ {A = ℕ} 0 1 = cc in absurd (omega arith)
+        by (refused n high) h = cc
         by (taken free) h =
             let xs = (taking R r m).entries in
             let seen = seen_by i (exchanges R (fresh_by R) inputs) in

@@ -45,15 +45,12 @@ abbrev in_list : ℕ → Bool
 in_list n = leb 1 n && leb n 11
 
 first-in-list : (tests : List Test) (n : ℕ) → every (λ (t : Test). in_list t.number) tests ≡ true → first_of tests ≡ some n → in_list n ≡ true
-first-in-list [] n h e = let z : ◌≡◌ {A = ℕ} 0 1 = cc in absurd (omega arith)
+first-in-list [] n h e = cc
 first-in-list (t ∷ tests) n h e = go t.holds e (λ k. first-in-list tests n (and_right (in_list t.number) (every (λ (t : Test). in_list t.number) tests) h) k)
   where
     go : (b : Bool) → cond b (some t.number) (first_of tests) ≡ some n → (first_of tests ≡ some n → in_list n ≡ true) → in_list n ≡ true
     go true e k = let z : t.number ≡ n = cc in rw (← z) (and_left (in_list t.number) (every (λ (t : Test). in_list t.number) tests) h)
     go false e k = k e
-
-not_none : (n : ℕ) → some n ≡ none → ⊥
-not_none n h = let z : ◌≡◌ {A = ℕ} 0 1 = cc in omega arith
 
 module _ (R : Rule State Event ℕ) (r : Register) (m : Message) where
   -- what is sent, by what it comes to
@@ -68,7 +65,7 @@ module _ (R : Rule State Event ℕ) (r : Register) (m : Message) where
       let i = (heading_of m).account in
       let next = account_of (taking R r m).account in
       record {
-        same = λ n h. absurd (not_none n (sym h));
+        same = λ n h. cc;
         count = length-set r.accounts i next;
         others = λ j other. get_or-set_other r.accounts i j next nowhere other;
       }
@@ -80,7 +77,7 @@ module _ (R : Rule State Event ℕ) (k : Suits R) (r : Register) (bytes buffer :
   -- a call that is refused is the refusal
   is-refusal : {x : Called} → Calling R r bytes buffer x → (n : ℕ) → refusal_of x.reply ≡ some n → x ≡ refused_with r buffer (numbered n)
   is-refusal (refused j why) n h = let z : number_of j ≡ n = cc in rw (← z, literal-holds.told j)
-  is-refusal (taken m consumed t) n h = absurd (not_none n (sym h))
+  is-refusal (taken m consumed t) n h = cc
 
   pub refusal : (n : ℕ) → refusal_of (called_by R r bytes buffer).reply ≡ some n → Refusal R r bytes buffer n
   refusal n h =
@@ -106,7 +103,7 @@ module _ (R : Rule State Event ℕ) (k : Suits R) (r : Register) (bytes buffer :
     others : (j : ℕ) → (j ≡ account_in bytes → ⊥) → account_at x.register j ≡ account_at r j
 
   changes : {x : Called} → Calling R r bytes buffer x → refusal_of x.reply ≡ none → Changes x
-  changes (refused n why) h = absurd (not_none (number_of n) h)
+  changes (refused n why) h = cc
   changes (taken m consumed t) h =
       let i = (heading_of m).account in
       let next = account_of (taking R r m).account in
@@ -129,7 +126,7 @@ module _ (R : Rule State Event ℕ) (k : Suits R) (r : Register) (bytes buffer :
       record { consumed = c.consumed; whole = c.whole; room = c.room; size = c.size; rest = c.rest; count = c.count; others = c.others }
 
 pub replies-apart : RepliesApart
-replies-apart (Err n) (Err k) h c w = ap Err (let z : number_of n ≡ number_of k = cc in same-refusal n k z)
-replies-apart (Err n) (Ok done) h c w = let z : ◌≡◌ {A = ℕ} 0 1 = cc in absurd (omega arith)
-replies-apart (Ok done) (Err k) h c w = let z : ◌≡◌ {A = ℕ} 0 1 = cc in absurd (omega arith)
+replies-apart (Err n) (Err k) h c w = let z : number_of n ≡ number_of k = cc in ap Err (same-refusal n k z)
+replies-apart (Err n) (Ok done) h c w = cc
+replies-apart (Ok done) (Err k) h c w = cc
 replies-apart (Ok done) (Ok done') h c w = λ i. Ok (record { consumed = c i; written = w i })

@@ -41,7 +41,7 @@ row-length bytes r e = go (leb 1 kind) (leb kind 3) (leb kind 6) refl refl refl
     missing : whole_of (row_of_kind messages kind) ≡ 0 → ⊥
     missing q =
         let gone : row_of_kind messages kind ≡ none = unknown messages kind (omega arith) q in
-        let z : ◌≡◌ {A = ℕ} 0 1 = cc in omega arith
+        cc
 
     go : (a b c : Bool) → leb 1 kind ≡ a → leb kind 3 ≡ b → leb kind 6 ≡ c → Whole bytes r.whole
     go true true c p q s =

@@ -2,7 +2,7 @@
 -- what was sent have room.
 -- Assumes nothing.
 use Prim.Native.Nat.{ℕ, ◌<◌, ◌≤◌}
-use mathlib.Core.Path.{◌≡◌, refl, ◌∙◌, ap}
+use mathlib.Core.Path.{◌≡◌, refl, ap}
 use mathlib.Core.List.{List}
 use native.Mathlib.Omega.{arith}
 use lib.ListN.{length}
@@ -30,7 +30,7 @@ use Rattle.entry.specs.Bytes.{bytes_of_entries, list_of}
 use Rattle.entry.specs.Answers.{longest_call, write_of}
 use Rattle.entry.proofs.CallFits.{listed}
 use Rattle.register.specs.declared.Register.{Register}
-use Rattle.register.specs.Register.{nowhere, account_at, with_account, rule_message, not_sent, sent_as, sent_in, sent_by}
+use Rattle.register.specs.Register.{Sent, nowhere, account_at, with_account, rule_message, not_sent, sent_as, sent_in, sent_by}
 use Rattle.register.specs.Call.{refused_with, wrote_as, wrote_of, after_message, called_by}
 use Rattle.register.proofs.Suits.{Suits}
 use Rattle.register.proofs.Sending.{taking, Sending, refused, taken, sending, taken-bytes}
@@ -68,9 +68,9 @@ module _ (R : rule.Rule State Event ℕ) (r : Register) (m : Message) where
   pub sent-keeps : (x : Refusal) → (sent_by R r m).answer ≡ Err x → (sent_by R r m).register ≡ r
   sent-keeps x e = go (sending R r m) e
     where
-      go : {sent : _} → Sending R r m sent → sent.answer ≡ Err x → sent.register ≡ r
+      go : {sent : Sent} → Sending R r m sent → sent.answer ≡ Err x → sent.register ≡ r
       go (refused n high) e = refl
-      go (taken free) e = let z : ◌≡◌ {A = ℕ} 0 1 = cc in absurd (omega arith)
+      go (taken free) e = cc
 
 -- The ways out of a call.
 module _ (R : rule.Rule State Event ℕ) (k : Suits R) (r : Register) (bytes buffer : List ℕ) where
@@ -89,25 +89,26 @@ module _ (R : rule.Rule State Event ℕ) (k : Suits R) (r : Register) (bytes buf
     unfolding called_by after_message
     room-refused l = rw (q, lt-ltb (length buffer) longest_call l)
 
-    module _ (l : longest_call ≤ length buffer) where
-      call-wrote : called_by R r bytes buffer ≡ wrote_of r buffer i consumed (sent_by R r m)
-      unfolding called_by after_message
-      call-wrote = rw (q, le-ltb (length buffer) longest_call l)
+    -- with room what was sent is refused, or it is taken, and its entries are written
+    pub record WithRoom : Type 0 where
+      pub refused' : (x : Refusal) → (sent_by R r m).answer ≡ Err x → called_by R r bytes buffer ≡ refused_with r buffer x
+      pub taken' : (entries : Entries) → (sent_by R r m).answer ≡ Ok entries → called_by R r bytes buffer ≡ wrote_as r buffer i consumed (Ok entries) (sent_by R r m).register
+      pub written : (entries : Entries) → (sent_by R r m).answer ≡ Ok entries → write_of (list_of entries) i buffer ≡ wrote_over (bytes_of_entries i (list_of entries)) buffer
 
-      -- what was sent is refused
-      pub sent-refused : (x : Refusal) → (sent_by R r m).answer ≡ Err x → called_by R r bytes buffer ≡ refused_with r buffer x
-      sent-refused x e = call-wrote ∙ ap (λ (answer : Result Entries Refusal). wrote_as r buffer i consumed answer (sent_by R r m).register) e
+    pub with_room : longest_call ≤ length buffer → WithRoom
+    unfolding called_by after_message write_of
+    with_room l =
+        record {
+          refused' = λ x e. rw (wrote, e);
+          taken' = λ entries e. rw (wrote, e);
+          written = λ entries e. rw (le-ltb (length buffer) longest_call l, le-ltb (length buffer) (length (bytes_of_entries i (list_of entries))) (go entries (sending R r m) e));
+        }
+      where
+        wrote : called_by R r bytes buffer ≡ wrote_of r buffer i consumed (sent_by R r m)
+        wrote = rw (q, le-ltb (length buffer) longest_call l)
 
-      -- or it is taken, and written: its entries have room
-      pub sent-taken : (entries : Entries) → (sent_by R r m).answer ≡ Ok entries → called_by R r bytes buffer ≡ wrote_as r buffer i consumed (Ok entries) (sent_by R r m).register
-      sent-taken entries e = call-wrote ∙ ap (λ (answer : Result Entries Refusal). wrote_as r buffer i consumed answer (sent_by R r m).register) e
-
-      pub entries-written : (entries : Entries) → (sent_by R r m).answer ≡ Ok entries → write_of (list_of entries) i buffer ≡ wrote_over (bytes_of_entries i (list_of entries)) buffer
-      unfolding write_of
-      entries-written entries e = rw (le-ltb (length buffer) longest_call l, le-ltb (length buffer) (length (bytes_of_entries i (list_of entries))) (go (sending R r m) e))
-        where
-          go : {sent : _} → Sending R r m sent → sent.answer ≡ Ok entries → length (bytes_of_entries i (list_of entries)) ≤ length buffer
-          go (refused n high) e = let z : ◌≡◌ {A = ℕ} 0 1 = cc in absurd (omega arith)
-          go (taken free) e =
-              let same : entries ≡ entries_of (taking R r m).entries = cc in
-              rw (same, listed (taking R r m).entries) (omega (arith, l, taken-bytes R r m k free i))
+        go : (entries : Entries) {sent : Sent} → Sending R r m sent → sent.answer ≡ Ok entries → length (bytes_of_entries i (list_of entries)) ≤ length buffer
+        go entries (refused n high) e = cc
+        go entries (taken free) e =
+            let same : entries ≡ entries_of (taking R r m).entries = cc in
+            rw (same, listed (taking R r m).entries) (omega (arith, l, taken-bytes R r m k free i))

@@ -16,7 +16,7 @@ pub struct Ran {
     pub written: usize,
 }
 
-// What one message comes to, and whether nothing more is read after it.
+// What one message comes to, and whether nothing more is read after it. Counts beside a flag: a run adds them up whatever the case, and `PassedForm` names each.
 #[derive(Clone, Copy, PartialEq, Eq, Drop)]
 pub struct Passed {
     pub refused: usize,

@@ -14,7 +14,7 @@ use Rattle.account.proofs.First.{first-ranged}
 use Rattle.account.proofs.Ordered.{ordered}
 use Rattle.account.proofs.Judged.{number_in, abort-refusal, dropped-only}
 use Rattle.account.proofs.Answered.{step-disorder, step-refused, is-taken, step-taken}
-use Rattle.account.proofs.Ended.{rest-few, abort-settled}
+use Rattle.account.proofs.Ended.{abort-settled}
 use Rattle.account.proofs.Account.abort.Goals as goal
 
 pub returns-in_err-judge : goal.returns-in_err-judge
@@ -48,27 +48,6 @@ pub slice_bounds-drop_from-end-3 : goal.slice_bounds-drop_from-end-3
 slice_bounds-drop_from-end-3 c =
     let own = ordered panel c.args.self.now first-ranged (omega arith) (omega arith) c.in_ok-judge.ensures.0 in
     omega arith
-
-pub settle-requires : goal.settle-requires
-settle-requires c =
-    let a = c.args in
-    let self = a.self.now in
-    let own = ordered panel self first-ranged (omega arith) (omega arith) c.in_ok-judge.ensures.0 in
-    let first = c.drop_from-self in
-    let second = c.drop_from-self-2 in
-    let rest : Account =
-    record {
-      state = self.state;
-      progress = first.new.row ++ drop self.progressing self.progress;
-      progressing = first.result;
-      held = second.new.row ++ drop self.holding self.held;
-      holding = second.result;
-    } in
-    let size = length-take-le self.progressing self.progress (omega arith) in
-    let size_held = length-take-le self.holding self.held (omega arith) in
-    let progress = ap (λ l. l ++ drop self.progressing self.progress) (rw size at first.ensures.row) in
-    let held = ap (λ l. l ++ drop self.holding self.held) (rw size_held at second.ensures.row) in
-    rest-few panel self (omega arith) own a.transaction a.filed rest refl progress first.ensures.left held second.ensures.left
 
 pub returns : goal.returns
 unfolding lists_of

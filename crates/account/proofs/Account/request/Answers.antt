@@ -1,6 +1,6 @@
 -- What is refused is refused by what judging found; what is taken goes by its vote.
 -- Assumes nothing.
-use Rattle.std.proofs.Common.{◌≡◌, ap, ◌∙◌, arith}
+use Rattle.std.proofs.Common.{◌≡◌, ℕ, List, length, true, Result, Ok, ap, ◌∙◌, arith}
 use Rattle.std.proofs.lemmas.Result.{err_from_is_err_and}
 use Rattle.rule.specs.Rule.{Message, request, voted}
 use Rattle.rule.specs.Step.{step}
@@ -11,13 +11,30 @@ use Rattle.events.specs.declared.Event.{Event}
 use Rattle.filing.specs.declared.Filed.{Filed}
 use Rattle.account.specs.Steps.{Stepped, taken_step}
 use Rattle.account.specs.First.{panel}
-use Rattle.account.proofs.First.{first-ranged}
+use Rattle.account.specs.First.{in_order_of}
+use Rattle.account.specs.inside.Judged.{JudgedBy}
+use Rattle.account.specs.inside.First.{Decides, request_answer}
+use Rattle.account.specs.declared.Account.{Account}
+use Rattle.account.specs.declared.judging.Judged.{Judged}
+use Rattle.refusal.specs.declared.Refusal.{Refusal}
+use Rattle.filing.specs.declared.Weighing.{Weighing}
+use Rattle.filing.specs.Slots.{RuleSlot, places}
+use Rattle.account.proofs.First.{first-ranged, Weighed}
 use Rattle.account.proofs.Ordered.{ordered}
 use Rattle.account.proofs.Judged.{number_in, request-refusal}
 use Rattle.account.proofs.Answered.{step-disorder, step-refused, is-taken, step-taken}
 use Rattle.account.proofs.Asked.{request-weighed, asked-accept, asked-reject, asked-hold}
 use Rattle.account.proofs.Account.request.Goals as goal
 use Rattle.account.proofs.Account.request.Goals.{in-Accepted, in-Rejected, in-Held}
+
+-- where a request is taken its weighing is the rule's, and there is a place for it
+taken-weighed : (self : Account) → length self.progress ≡ places → length self.held ≡ places → (t : ℕ) (g : Filed) (e : Event) → in_order_of self ≡ true → (j : Judged) → JudgedBy panel self t j
+    → (answer : Result (Unit {0}) Refusal) → answer ≡ request_answer j.found self.holding → (x : Unit {0}) → answer ≡ Ok x
+    → (w : Weighing) → ((requests : List RuleSlot) → self.holding ≡ length requests → Decides requests e self.progressing j.outcomes w) → Weighed self e w
+taken-weighed self many many_held t g e o j judged answer is x takes w decides =
+    let own = ordered panel self first-ranged many many_held o in
+    let says = ap number_in is ∙ request-refusal panel self (omega (arith, own.holding)) t g o e j.found judged.finds in
+    request-weighed panel first-ranged self many many_held t g e o (is-taken panel self (request t g e) o answer says x takes) j.outcomes judged.knows w decides
 
 pub returns-in_err-judged : goal.returns-in_err-judged
 returns-in_err-judged c =
@@ -46,15 +63,9 @@ pub offset_bounds-self-self : goal.offset_bounds-self-self
 offset_bounds-self-self c =
     let a = c.args in
     let self = a.self.now in
-    let m : Message Filed Event = request c.args.transaction c.args.filed c.args.event in
-    let o = c.in_ok-judged.ensures.0 in
-    let j = c.in_ok-judged.ensures.1 in
-    let found = c.in_ok-judged.judged.found in
     let r = c.for_request in
-    let own = ordered panel self first-ranged (omega arith) (omega arith) o in
-    let says = ap number_in r.ensures ∙ request-refusal panel self (omega arith) a.transaction a.filed o a.event found j.finds in
     let w = c.decide_behind-weighing in
-    let known = request-weighed panel first-ranged self (omega arith) (omega arith) a.transaction a.filed a.event o (is-taken panel self m o r.result says _ c.in_ok-for_request.was) c.in_ok-judged.judged.outcomes j.knows w.result w.ensures in
+    let known = taken-weighed self (omega arith) (omega arith) a.transaction a.filed a.event c.in_ok-judged.ensures.0 _ c.in_ok-judged.ensures.1 r.result r.ensures _ c.in_ok-for_request.was w.result w.ensures in
     let free = known.free (ap is_accepted c.in-Accepted.is) in
     omega (arith, free)
 
@@ -62,15 +73,9 @@ pub bounds-self-self : goal.bounds-self-self
 bounds-self-self c =
     let a = c.args in
     let self = a.self.now in
-    let m : Message Filed Event = request c.args.transaction c.args.filed c.args.event in
-    let o = c.in_ok-judged.ensures.0 in
-    let j = c.in_ok-judged.ensures.1 in
-    let found = c.in_ok-judged.judged.found in
     let r = c.for_request in
-    let own = ordered panel self first-ranged (omega arith) (omega arith) o in
-    let says = ap number_in r.ensures ∙ request-refusal panel self (omega arith) a.transaction a.filed o a.event found j.finds in
     let w = c.decide_behind-weighing in
-    let known = request-weighed panel first-ranged self (omega arith) (omega arith) a.transaction a.filed a.event o (is-taken panel self m o r.result says _ c.in_ok-for_request.was) c.in_ok-judged.judged.outcomes j.knows w.result w.ensures in
+    let known = taken-weighed self (omega arith) (omega arith) a.transaction a.filed a.event c.in_ok-judged.ensures.0 _ c.in_ok-judged.ensures.1 r.result r.ensures _ c.in_ok-for_request.was w.result w.ensures in
     let free = known.free (ap is_accepted c.in-Accepted.is) in
     omega (arith, free)
 
@@ -78,15 +83,9 @@ pub overflow_add-self : goal.overflow_add-self
 overflow_add-self c =
     let a = c.args in
     let self = a.self.now in
-    let m : Message Filed Event = request c.args.transaction c.args.filed c.args.event in
-    let o = c.in_ok-judged.ensures.0 in
-    let j = c.in_ok-judged.ensures.1 in
-    let found = c.in_ok-judged.judged.found in
     let r = c.for_request in
-    let own = ordered panel self first-ranged (omega arith) (omega arith) o in
-    let says = ap number_in r.ensures ∙ request-refusal panel self (omega arith) a.transaction a.filed o a.event found j.finds in
     let w = c.decide_behind-weighing in
-    let known = request-weighed panel first-ranged self (omega arith) (omega arith) a.transaction a.filed a.event o (is-taken panel self m o r.result says _ c.in_ok-for_request.was) c.in_ok-judged.judged.outcomes j.knows w.result w.ensures in
+    let known = taken-weighed self (omega arith) (omega arith) a.transaction a.filed a.event c.in_ok-judged.ensures.0 _ c.in_ok-judged.ensures.1 r.result r.ensures _ c.in_ok-for_request.was w.result w.ensures in
     let free = known.free (ap is_accepted c.in-Accepted.is) in
     omega (arith, free)
 
@@ -102,7 +101,7 @@ returns c =
     let own = ordered panel self first-ranged (omega arith) (omega arith) o in
     let says = ap number_in r.ensures ∙ request-refusal panel self (omega arith) a.transaction a.filed o a.event found j.finds in
     let w = c.decide_behind-weighing in
-    let known = request-weighed panel first-ranged self (omega arith) (omega arith) a.transaction a.filed a.event o (is-taken panel self m o r.result says _ c.in_ok-for_request.was) c.in_ok-judged.judged.outcomes j.knows w.result w.ensures in
+    let known = taken-weighed self (omega arith) (omega arith) a.transaction a.filed a.event o _ j r.result r.ensures _ c.in_ok-for_request.was w.result w.ensures in
     let lists = lists_of self in
     let v = w.result in
     let entries : c.only.result ≡ only_entry (entry_of (voted a.transaction a.filed a.event (weighing_of v))) = c.only.ensures ∙ ap only_entry c.voted.ensures in

@@ -5,13 +5,10 @@ use Rattle.rule.specs.Rule.{applied}
 use Rattle.events.specs.declared.State.{State}
 use Rattle.filing.specs.Entries.{entry_of, only_entry}
 use Rattle.filing.specs.Slots.{blank}
-use Rattle.account.proofs.Applying.{applying-none, applying-stays, applying-next, applying-all}
+use Rattle.account.proofs.Applying.{applying-stays, applying-next, applying-all}
 use Rattle.account.proofs.Voting.{drained-idle}
 use Rattle.account.proofs.Account.settle.Goals as goal
 use Rattle.account.proofs.Account.settle.Goals.{then-at-ended, else-at-ended}
-
-pub loop-at-init : goal.loop-at-init
-loop-at-init c = rw c.only-entries.ensures (applying-none _ c.args.self.now (only_entry c.args.first) (omega arith) (omega arith) refl)
 
 pub loop-at-preserved : goal.loop-at-preserved
 loop-at-preserved c =

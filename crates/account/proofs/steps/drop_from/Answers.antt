@@ -1,7 +1,7 @@
 -- Each place that is gone through is taken out or kept.
 -- Assumes nothing.
 use Rattle.std.proofs.Common.{◌<◌, length, arith}
-use Rattle.account.proofs.TakenOut.{out-gone, out-kept, out-left}
+use Rattle.account.proofs.TakenOut.{out-gone, out-kept}
 use Rattle.account.proofs.steps.drop_from.Goals as goal
 use Rattle.account.proofs.steps.drop_from.Goals.{then-transaction-slot, else-transaction-slot}
 
@@ -15,9 +15,3 @@ loop-at-preserved c =
       | then-transaction-slot w ↦ rw (w.row-is, w.left-is) (out-kept a.transaction row v.at below v.row v.left v.invariant w.if-transaction-slot.true)
       | else-transaction-slot w ↦ rw (w.row-is, w.left-is) (out-gone a.transaction row v.at below v.row v.left v.invariant w.if-transaction-slot.false)
     ]
-
-pub returns : goal.returns
-returns c =
-    let v = c.loop-at in
-    let left = out-left c.args.transaction c.args.row.now v.row v.left v.at (omega arith) v.invariant in
-    record { left = left.0; row = left.1 }

@@ -3,7 +3,7 @@
 use Rattle.std.proofs.Common.{◌≤◌, ◌<◌, length, get_or, arith}
 use Rattle.filing.specs.Slots.{blank}
 use Rattle.account.specs.Places.{used}
-use Rattle.account.proofs.Places.{used-more, used-all, count-used}
+use Rattle.account.proofs.Places.{used-more, count-used}
 use Rattle.account.proofs.Known.{knows-few}
 use Rattle.account.proofs.outcomes.Outcomes.after.Goals as goal
 
@@ -21,6 +21,3 @@ loop-slot-preserved c =
     let x = get_or events v.slot-index blank in
     let below : v.slot-index < length events = omega arith in
     rw (used-more events v.slot-index blank below) (c.with-outcomes.ensures c.args.s (used events v.slot-index) x.transaction x.filed v.invariant)
-
-pub returns : goal.returns
-returns c = rw (← used-all c.args.events.now c.loop-slot.slot-index (omega arith)) c.loop-slot.invariant
