@@ -87,7 +87,7 @@ pub fn read_numbers(bytes: &[u8], widths: [u8; FIELDS]) -> [u32; FIELDS]
     numbers
 }
 
-// Stores a number of 1 byte at `at`.
+// Stores a number of 1 byte at `at`, by its index: `get_mut` says nothing of what the buffer ends as.
 pub fn put1(buffer: &mut [u8], at: usize, number: u8)
     ensures { buffer.new ≡ sets buffer.old at (bytes_of 1 number) }
 {

@@ -82,7 +82,7 @@ pub fn account_of(message: Message) -> u16
 }
 
 impl Message {
-    // The kind of the message: a request has that of its event.
+    // The number of the message's kind: a request has that of its event, which is taken apart in `events` alone.
     fn kind(self) -> u8
         ensures { result ≡ kind_of self }
     {
