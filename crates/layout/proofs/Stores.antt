@@ -4,7 +4,7 @@ use Prim.Native.Nat.{ℕ, zero, suc, ◌+◌, ◌≤◌, ◌<◌}
 use native.Mathlib.Nat.{add-zero, zero-add, add-suc, suc-add}
 use native.Mathlib.Omega.{arith}
 use mathlib.Core.Path.{◌≡◌, refl, ap, sym, ◌∙◌}
-use mathlib.Core.List.{List, [], ◌∷◌, ◌++◌, append-nil, append_assoc}
+use mathlib.Core.List.{List, [], ◌∷◌, ◌++◌, append-nil}
 use lib.ListN.{length, set, take, drop, length-take, length-drop, take-append-drop, drop_of_length-le}
 use borrow.Rule.Slice.PartMut.{put_mid}
 use lib.Seq.{sets, sets-eq, set_out, set_comm, drop-drop, take_at, take_all}
@@ -52,23 +52,25 @@ module _ {ℓ} {A : Type ℓ} where
   sets-behind front l [] i = refl
   sets-behind front l (v ∷ vs) i = rw (set_behind front l i v, ← add-suc) (sets-behind front (set l i v) vs (suc i))
 
--- bytes copied to where there is room for them
-pub stored : (l vs copied : List ℕ) (at k : ℕ) → copied ≡ vs → length vs ≡ k → at + k ≤ length l → put_mid at k l copied ≡ sets l at vs
-stored l vs copied at k e n h = rw (e, sets-eq vs l at (rw n h), n, drop-drop, append_assoc)
+-- stores made in the end of a list
+pub stored-behind : (l vs end : List ℕ) (at k : ℕ) → at + k ≡ length l → end ≡ sets (take k (drop at l)) 0 vs → put_mid at k l end ≡ sets l at vs
+stored-behind l vs end at k n e =
+    let front : length (take at l) ≡ at = rw length-take (omega arith) in
+    let all : take k (drop at l) ≡ drop at l = take_all k (drop at l) (rw length-drop (omega arith)) in
+    let back : drop k (drop at l) ≡ [] = rw drop-drop (drop_of_length-le l (omega arith)) in
+    let moved = rw (take-append-drop, front, add-zero) at (sets-behind (take at l) (drop at l) vs 0) in
+    rw (e, all, back, append-nil) (sym moved)
 
 -- stores made beside a list, over a copy of its end, and copied back
 pub stored-beside : (l vs copy rest copied : List ℕ) (at k : ℕ) → at + k ≡ length l → copy ≡ take k (drop at l) → copied ≡ take k (sets (copy ++ rest) 0 vs)
     → put_mid at k l copied ≡ sets l at vs
 stored-beside l vs copy rest copied at k n c e =
-    let front : length (take at l) ≡ at = rw length-take (omega arith) in
-    let size : length (drop at l) ≡ k = rw length-drop (omega arith) in
-    let back : drop k (drop at l) ≡ [] = rw drop-drop (drop_of_length-le l (omega arith)) in
-    let all : copy ≡ drop at l = c ∙ take_all k (drop at l) (omega arith) in
-    let row : take k (copy ++ rest) ≡ drop at l = rw all (take_at (drop at l) rest k size) in
-    let same : copied ≡ sets (drop at l) 0 vs = e ∙ take-sets k vs (copy ++ rest) 0 ∙ rw row in
-    let moved = rw (take-append-drop, front, add-zero) at (sets-behind (take at l) (drop at l) vs 0) in
-    rw (same, back, append-nil) (sym moved)
+    let size : length copy ≡ k = rw (c, length-take, length-drop) (omega arith) in
+    stored-behind l vs copied at k n (e ∙ take-sets k vs (copy ++ rest) 0 ∙ rw (take_at copy rest k size, c))
 
 -- stores from the beginning of a buffer that has room for them lay them over it
 pub laid-over : (bytes buffer : List ℕ) → length bytes ≤ length buffer → sets buffer 0 bytes ≡ laid_over bytes buffer
 laid-over bytes buffer h = sets-eq bytes buffer 0 (rw zero-add h) ∙ rw zero-add
+
+pub stored : (l vs copied : List ℕ) (k : ℕ) → copied ≡ vs → length vs ≡ k → k ≤ length l → copied ++ drop k l ≡ sets l 0 vs
+stored l vs copied k e n h = rw (e, ← n) (sym (laid-over vs l (omega arith)))

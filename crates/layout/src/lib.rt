@@ -63,12 +63,12 @@ pub fn put_numbers(buffer: &mut [u8], at: usize, widths: [u8; FIELDS], numbers: 
 {
     let room = buffer.len().saturating_sub(at);
     if LONGEST_ROW <= room {
-        put_row(buffer, at, widths, numbers);
+        put_row(&mut buffer[at..], widths, numbers);
     } else if 0 < room {
         // Near the end the row is stored beside the buffer, over a copy of what stands there.
         let mut row = [0; LONGEST_ROW];
         row[..room].copy_from_slice(&buffer[at..]);
-        put_row(&mut row, 0, widths, numbers);
+        put_row(&mut row, widths, numbers);
         buffer[at..].copy_from_slice(&row[..room]);
     }
 }
@@ -166,37 +166,37 @@ const LONGEST_ROW: usize = 4 * FIELDS;
 
 // Stores a row of numbers where there is room for the longest: with no look at the buffer's end, the compiler makes the loop one step a number.
 #[inline(always)]
-fn put_row(buffer: &mut [u8], at: usize, widths: [u8; FIELDS], numbers: [u32; FIELDS])
-    requires { at + 40 ≤ length buffer.old }
-    ensures { buffer.new ≡ sets buffer.old at (written (map bytes_in widths) numbers) }
+fn put_row(buffer: &mut [u8], widths: [u8; FIELDS], numbers: [u32; FIELDS])
+    requires { 40 ≤ length buffer.old }
+    ensures { buffer.new ≡ sets buffer.old 0 (written (map bytes_in widths) numbers) }
 {
-    let mut to = at;
+    let mut to = 0;
     for (i, width) in widths.iter().enumerate() {
-        to += put(buffer, to, *width, numbers[i]);
+        to += put(&mut buffer[to..], *width, numbers[i]);
     }
 }
 
-// Stores a number of that width from `at` on, where there is room for 4 bytes, and answers how many bytes it has.
-fn put(buffer: &mut [u8], at: usize, width: u8, number: u32) -> usize
-    requires { at + 4 ≤ length buffer.old }
+// Stores a number of that width where there is room for 4 bytes, and answers how many bytes it has.
+fn put(buffer: &mut [u8], width: u8, number: u32) -> usize
+    requires { 4 ≤ length buffer.old }
     ensures count { (result ≡ bytes_in width) × (result ≤ 4) }
-    ensures buffer { buffer.new ≡ sets buffer.old at (bytes_of (bytes_in width) number) }
+    ensures buffer { buffer.new ≡ sets buffer.old 0 (bytes_of (bytes_in width) number) }
 {
     let [a, b, c, d] = number.to_be_bytes();
     match width {
         0 => 0,
-        1 => put_bytes(buffer, at, [d]),
-        2 => put_bytes(buffer, at, [c, d]),
-        _ => put_bytes(buffer, at, [a, b, c, d]),
+        1 => put_bytes(buffer, [d]),
+        2 => put_bytes(buffer, [c, d]),
+        _ => put_bytes(buffer, [a, b, c, d]),
     }
 }
 
-// Stores bytes from `at` on, where there is room for them, and answers how many they are.
-fn put_bytes<const COUNT: usize>(buffer: &mut [u8], at: usize, bytes: [u8; COUNT]) -> usize
-    requires { at + COUNT ≤ length buffer.old }
+// Stores bytes where there is room for them, and answers how many they are.
+fn put_bytes<const COUNT: usize>(buffer: &mut [u8], bytes: [u8; COUNT]) -> usize
+    requires { COUNT ≤ length buffer.old }
     ensures count { result ≡ COUNT }
-    ensures buffer { buffer.new ≡ sets buffer.old at bytes.entry }
+    ensures buffer { buffer.new ≡ sets buffer.old 0 bytes.entry }
 {
-    buffer[at..at + COUNT].copy_from_slice(&bytes);
+    buffer[..COUNT].copy_from_slice(&bytes);
     COUNT
 }

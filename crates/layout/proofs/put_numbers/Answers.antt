@@ -3,8 +3,13 @@
 use Rattle.std.proofs.Common.{◌≡◌, ◌-◌, arith, sym, ap, ◌∙◌, map, length, take}
 use Rattle.layout.specs.Fields.{written}
 use Rattle.layout.specs.Shapes.{bytes_in}
-use Rattle.layout.proofs.Stores.{sets-out, stored-beside}
+use Rattle.layout.proofs.Stores.{sets-out, stored-behind, stored-beside}
 use Rattle.layout.proofs.put_numbers.Goals as goal
+
+pub returns-then-room-ge-LONGEST_ROW : goal.returns-then-room-ge-LONGEST_ROW
+returns-then-room-ge-LONGEST_ROW c =
+    let a = c.args in
+    stored-behind a.buffer.now (written (map bytes_in a.widths) a.numbers) c.put_row.new.buffer a.at (length a.buffer.now - a.at) (omega arith) c.put_row.ensures
 
 pub returns-then-room-gt0 : goal.returns-then-room-gt0
 returns-then-room-gt0 c =
