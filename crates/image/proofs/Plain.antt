@@ -4,10 +4,9 @@ use Prim.Native.Nat.{ℕ, zero, suc, ◌+◌, ◌*◌, ◌≤◌, ◌<◌}
 use native.Mathlib.Omega.{arith}
 use mathlib.Core.Path.{◌≡◌, refl, ap, sym, ◌∙◌}
 use mathlib.Core.Logic.{◌⊎◌, inl, inr}
-use mathlib.Core.Bool.{Bool, true, false, cond, ◌&&◌}
+use mathlib.Core.Bool.{Bool, true, false, cond}
 use mathlib.Core.List.{List, ◌∷◌}
 use borrow.Author.Tests.{eqb-true, eq-eqb, le-leb, lt-leb}
-use lib.Dec.{eqb}
 use lib.ListN.{length, get_or, drop}
 use lib.Seq.{get_or-drop, drop-drop}
 use Rattle.rule.proofs.Lists.{and_left, and_right}
@@ -22,6 +21,7 @@ use Rattle.filing.specs.Slots.{places}
 use Rattle.image.specs.Words.{life_word, event_word, decision_word, place_words, account_words, words_of_slot, words_of_slots, words_of}
 use Rattle.image.specs.Reading.{life_from, is_life, decision_from, is_decision, event_from, is_event, is_slot, are_slots, is_account, fields_from, account_from}
 use Rattle.image.specs.Plain.{NinePlain, EachFits, CountsPlain, KeptPlain, Word, PlainHolds}
+use Rattle.image.proofs.WordsOfFields.{same}
 use Rattle.image.proofs.WrittenBack.{Parts, parts}
 
 life-most : (x : Life) → life_word x ≤ 2
@@ -51,16 +51,11 @@ place-valid words b =
     let e = get_or words 2 0 in
     let a = get_or words 3 0 in
     let d = get_or words 4 0 in
-    let is-event = eqb (event_word (event_from e a)) e in
-    let is-amount = eqb (amount_of (event_from e a)) a in
-    let both = and_left (is-event && is-amount) (is_decision d) b in
-    let event = eqb-true (event_word (event_from e a)) e (and_left is-event is-amount both) in
-    let amount = eqb-true (amount_of (event_from e a)) a (and_right is-event is-amount both) in
-    let decision = eqb-true (decision_word (decision_from d)) d (and_right (is-event && is-amount) (is_decision d) b) in
+    let known = same e a d b in
     record {
-      event = omega (arith, event, event-most (event_from e a));
-      amount = λ z. sym amount ∙ ap (λ (k : ℕ). amount_of (event_from k a)) z;
-      decision = omega (arith, decision, decision-most (decision_from d));
+      event = omega (arith, known.event, event-most (event_from e a));
+      amount = λ z. sym known.amount ∙ ap (λ (k : ℕ). amount_of (event_from k a)) z;
+      decision = omega (arith, known.decision, decision-most (decision_from d));
     }
 
 -- each place of a row

@@ -5,8 +5,8 @@ use native.Mathlib.Nat.{min-eq_left, min-eq_right}
 use native.Mathlib.Omega.{arith}
 use mathlib.Core.Path.{◌≡◌, refl, sym, ◌∙◌}
 use mathlib.Core.Bool.{Bool, true, false, ◌&&◌}
-use borrow.Author.Tests.{le-leb, lt-leb, leb-true, leb-false}
-use lib.Dec.{leb, lit≤}
+use borrow.Author.Tests.{eqb-true, le-leb, lt-leb, leb-true, leb-false}
+use lib.Dec.{eqb, leb, lit≤}
 use Rattle.events.specs.declared.Event.{Event}
 use Rattle.events.specs.declared.Event.TheVariants.{Open, Withdraw, Deposit, Close}
 use Rattle.events.specs.declared.Life.{Life}
@@ -16,7 +16,8 @@ use Rattle.events.proofs.Table.{kinds-hold}
 use Rattle.filing.specs.declared.Decision.{Decision}
 use Rattle.filing.specs.declared.Decision.TheVariants.{Undecided, Committed}
 use Rattle.image.specs.Words.{life_word, event_word, decision_word}
-use Rattle.image.specs.Reading.{life_from, event_from, decision_from}
+use Rattle.image.specs.Reading.{life_from, event_from, decision_from, is_event, is_decision}
+use Rattle.rule.proofs.Lists.{and_left, and_right}
 
 pub life-back : (l : Life) → life_from (life_word l) ≡ l
 life-back New = refl
@@ -33,6 +34,23 @@ event-back (Open a) = refl
 event-back (Withdraw a) = refl
 event-back (Deposit a) = refl
 event-back Close = refl
+
+-- words that are what they read as
+pub record Same (e a d : ℕ) : Type 0 where
+  pub event : event_word (event_from e a) ≡ e
+  pub amount : amount_of (event_from e a) ≡ a
+  pub decision : decision_word (decision_from d) ≡ d
+
+pub same : (e a d : ℕ) → is_event e a && is_decision d ≡ true → Same e a d
+same e a d b =
+    let first = eqb (event_word (event_from e a)) e in
+    let second = eqb (amount_of (event_from e a)) a in
+    let both = and_left (first && second) (is_decision d) b in
+    record {
+      event = eqb-true (event_word (event_from e a)) e (and_left first second both);
+      amount = eqb-true (amount_of (event_from e a)) a (and_right first second both);
+      decision = eqb-true (decision_word (decision_from d)) d (and_right (first && second) (is_decision d) b);
+    }
 
 -- there is no kind 0
 pub kind-positive : (e : Event) → 1 ≤ event_kind e

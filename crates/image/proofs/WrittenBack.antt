@@ -7,22 +7,22 @@ use mathlib.Core.Path.{◌≡◌, refl, ap, ◌∙◌}
 use mathlib.Core.Bool.{Bool, true, false, cond, ◌&&◌}
 use mathlib.Core.List.{List, [], ◌∷◌}
 use borrow.Author.Tests.{eqb-true, leb-true}
-use lib.Dec.{eqb, leb}
+use lib.Dec.{leb}
 use lib.ListN.{length, get_or, take, drop, length-drop}
 use lib.Seq.{take-add, get_or-drop}
 use Rattle.rule.specs.Rule.{Rule}
 use Rattle.rule.proofs.Lists.{and_left, and_right}
 use Rattle.events.specs.declared.Event.{Event}
-use Rattle.events.specs.Kinds.{amount_of}
 use Rattle.events.specs.declared.State.{State}
 use Rattle.filing.specs.declared.Slot.{Slot}
 use Rattle.filing.specs.Slots.{places}
 use Rattle.account.specs.declared.Account.{Account}
 use Rattle.account.specs.InOrder.{in_order_by}
 use Rattle.account.proofs.Clauses.{clauses}
-use Rattle.image.specs.Words.{life_word, event_word, decision_word, place_words, words_of_slot, words_of_slots, head_words, row_words, account_words, head_of, words_of}
-use Rattle.image.specs.Reading.{life_from, is_life, decision_from, is_decision, event_from, slot_from, is_slot, slots_from, are_slots, too_many, is_account, fields_from, no_account, account_from}
+use Rattle.image.specs.Words.{life_word, place_words, words_of_slot, words_of_slots, head_words, row_words, account_words, head_of, words_of}
+use Rattle.image.specs.Reading.{life_from, is_life, slot_from, is_slot, slots_from, are_slots, too_many, is_account, fields_from, no_account, account_from}
 use Rattle.image.specs.Images.{AreWords, Kept, WrittenBack}
+use Rattle.image.proofs.WordsOfFields.{same}
 
 -- ---- a place
 
@@ -34,13 +34,8 @@ slot-written (t ∷ g ∷ []) h b = absurd (omega arith)
 slot-written (t ∷ g ∷ e ∷ []) h b = absurd (omega arith)
 slot-written (t ∷ g ∷ e ∷ a ∷ []) h b = absurd (omega arith)
 slot-written (t ∷ g ∷ e ∷ a ∷ d ∷ rest) h b =
-    let is-event = eqb (event_word (event_from e a)) e in
-    let is-amount = eqb (amount_of (event_from e a)) a in
-    let both = and_left (is-event && is-amount) (is_decision d) b in
-    let event = eqb-true (event_word (event_from e a)) e (and_left is-event is-amount both) in
-    let amount = eqb-true (amount_of (event_from e a)) a (and_right is-event is-amount both) in
-    let decision = eqb-true (decision_word (decision_from d)) d (and_right (is-event && is-amount) (is_decision d) b) in
-    rw (event, amount, decision) refl
+    let known = same e a d b in
+    rw (known.event, known.amount, known.decision) refl
 
 -- ---- a row
 
