@@ -12,7 +12,7 @@ pub use writer::write_entries;
 // The room that a call needs: a commit noted, 8 events applied and 8 rejections.
 pub const LONGEST_CALL: usize = 323;
 
-// An entry as it was read, with the kind that it was read in and its account.
+// An entry as it was read, with the kind that it was read in and its account. The kind stays its number: `said_of_entry` and `is_older` name it.
 #[derive(Clone, Copy, Drop)]
 pub struct Found {
     pub entry: Entry,

@@ -37,7 +37,7 @@ pub struct State {
 }
 
 // What is known of many states at a glance: the lowest and the highest balance among the opened ones, 0 where none is, and which lives occur.
-// The lives stay three fields: `GlanceHolds` and the rows of `Literal` name them one by one.
+// The lives stay three fields, and the balances stand beside `opened`: `GlanceHolds` and the rows of `Literal` name them one by one.
 #[derive(Clone, Copy, Drop)]
 pub struct Range {
     pub lowest: u32,
@@ -126,7 +126,7 @@ impl Event {
         }
     }
 
-    // The amount of the event; 0 where it has none.
+    // The amount of the event; 0 where it has none, and no Option, as `amount_of` and the bytes have it.
     pub fn amount(self) -> u32
         ensures { result ≡ amount_of self }
     {
@@ -137,6 +137,7 @@ impl Event {
     }
 
     // The event of a kind and an amount; a kind that is none of 1 to 3 counts as 4.
+    // No TryFrom, which could fail: the definition `event_of` says what every number counts as.
     #[tactic(auto, unfolding(crate::specs::Kinds::event_of))]
     pub fn of(kind: u8, amount: u32) -> Event
         ensures { result ≡ event_of kind amount }

@@ -47,7 +47,7 @@ impl Event {
         }
     }
 
-    // The reason by its number; 0 where there is none.
+    // The reason by its number; 0 where there is none: a byte, as `Weighing` and the entries have it.
     pub fn reason_byte(self, state: State) -> u8
         ensures { result ≡ reason_byte (reason_of self state) }
     {

@@ -37,8 +37,8 @@ pub(crate) fn event_word(event: Event) -> u32
     (event.kind() - 1) as u32
 }
 
-#[tactic(auto, using(crate::proofs::WordsOfFields::kept))]
 // The event of a word and an amount; of a word that is none, as of the last.
+#[tactic(auto, using(crate::proofs::WordsOfFields::kept))]
 pub(crate) fn event_of(word: u32, amount: u32) -> Event
     ensures { result ≡ event_from word amount }
 {

@@ -33,7 +33,7 @@ const ROW_WORDS: usize = Account::PLACES * PLACE_WORDS;
 // One event more in progress than there are places: an account with that count is not in order.
 const TOO_MANY: usize = Account::PLACES + 1;
 
-// What too few words read as.
+// What too few words read as, and no Option: `account_from` says that they read as an account that is not in order.
 const NO_ACCOUNT: Account = Account {
     state: State::NEW,
     progress: [Slot::BLANK; Account::PLACES],

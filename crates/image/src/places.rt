@@ -14,8 +14,8 @@ pub(crate) struct Place {
     pub(crate) valid: bool,
 }
 
-#[tactic(auto, unfolding(crate::specs::Reading::slot_from, crate::specs::Reading::is_slot))]
 // The place of these words.
+#[tactic(auto, unfolding(crate::specs::Reading::slot_from, crate::specs::Reading::is_slot))]
 pub(crate) fn read_place(words: &[u32; PLACE_WORDS]) -> Place
     ensures { (result.slot ≡ slot_from words.now) × (result.valid ≡ is_slot words.now) }
 {
@@ -35,8 +35,8 @@ pub(crate) fn read_place(words: &[u32; PLACE_WORDS]) -> Place
     }
 }
 
-#[tactic(auto, unfolding(crate::specs::Words::words_of_slot))]
 // The words of a place.
+#[tactic(auto, unfolding(crate::specs::Words::words_of_slot))]
 pub(crate) fn place_words(slot: Slot) -> [u32; PLACE_WORDS]
     ensures { result ≡ words_of_slot slot }
 {

@@ -1,13 +1,16 @@
 -- Runs of stores: one after the other is one run, in either direction, and a run past the end stores nothing. By induction on the values stored.
 -- Assumes nothing.
-use Prim.Native.Nat.{ℕ, zero, suc, ◌+◌, ◌≤◌, ◌<◌}
+use Prim.Native.Nat.{ℕ, zero, suc, ◌+◌, ◌-◌, ◌≤◌, ◌<◌, min}
 use native.Mathlib.Nat.{add-zero, zero-add, add-suc, suc-add}
 use native.Mathlib.Omega.{arith}
 use mathlib.Core.Path.{◌≡◌, refl, ap, sym, ◌∙◌}
 use mathlib.Core.List.{List, [], ◌∷◌, ◌++◌, append-nil}
-use lib.ListN.{length, set, take, drop, length-take, length-drop, take-append-drop, drop_of_length-le}
+use lib.ListN.{length, set, take, drop, length-take, length-drop, length-set, take-append-drop, drop_of_length-le}
 use borrow.Rule.Slice.PartMut.{put_mid}
-use lib.Seq.{sets, sets-eq, set_out, set_comm, drop-drop, take_at, take_all}
+use lib.Seq.{sets, sets-eq, set_out, set_comm, drop-drop, take_at, take_all, length-take-le}
+use Rattle.std.proofs.Math.Nat.{min_comm}
+use Rattle.std.proofs.lemmas.List.{take_min}
+use Rattle.std.proofs.lemmas.Slice.{put_mid-paste}
 use Rattle.layout.specs.Writes.{laid_over}
 
 module _ {ℓ} {A : Type ℓ} where
@@ -51,6 +54,33 @@ module _ {ℓ} {A : Type ℓ} where
   sets-behind : (front l vs : List A) (i : ℕ) → sets (front ++ l) (length front + i) vs ≡ front ++ sets l i vs
   sets-behind front l [] i = refl
   sets-behind front l (v ∷ vs) i = rw (set_behind front l i v, ← add-suc) (sets-behind front (set l i v) vs (suc i))
+
+-- values that are stored as far as there is room for them
+module _ {A : Type 0} where
+  -- of stores that go past the end, those within the list are all
+  sets-within : (vs l : List A) (at n : ℕ) → length l ≤ at + n → sets l at (take n vs) ≡ sets l at vs
+  sets-within [] l at zero h = refl
+  sets-within [] l at (suc n) h = refl
+  sets-within (x ∷ vs) l at zero h = sym (sets-out (x ∷ vs) l at (omega arith))
+  sets-within (x ∷ vs) l at (suc n) h = sets-within vs (set l at x) (suc at) n (omega (arith, length-set l at x))
+
+  pub least_part : (vs : List A) (n : ℕ) → take (min (length vs) n) vs ≡ take n vs
+  least_part vs n = rw min_comm (take_min n vs)
+
+  -- the part of a list that they fill,
+  pub store_part : (vs part l : List A) (at count : ℕ) → at < length l → count ≡ min (length vs) (length l - at) → part ≡ take count vs
+      → put_mid at (at + count - at) l part ≡ sets l at vs
+  store_part vs part l at count h some is =
+      let these = take count vs in
+      let n : length these ≡ count = length-take-le count vs (omega arith) in
+      let all : sets l at these ≡ sets l at vs = rw (some, least_part vs (length l - at)) (sets-within vs l at (length l - at) (omega arith)) in
+      let laid : sets l at these ≡ take at l ++ these ++ drop (at + count) l = rw n at (sets-eq these l at (omega (arith, n))) in
+      put_mid-paste at (at + count - at) l part these count is (omega arith) (sym n)
+      ∙ ap (λ (x : List A). take at l ++ x ++ drop (at + count) l) (take_all count these (omega arith)) ∙ sym laid ∙ all
+
+  -- which is none past the end
+  pub store_none : (vs l : List A) (at : ℕ) → length l ≤ at → l ≡ sets l at vs
+  store_none vs l at h = sym (sets-out vs l at h)
 
 -- stores made in the end of a list
 pub stored-behind : (l vs end : List ℕ) (at k : ℕ) → at + k ≡ length l → end ≡ sets (take k (drop at l)) 0 vs → put_mid at k l end ≡ sets l at vs

@@ -18,6 +18,7 @@ pub const LAST_ACCOUNT: u16 = 15;
 pub const FIELDS: usize = 10;
 
 // How a kind of message or entry lies in bytes: the widths of its numbers, 0 where it has no more of them, and its whole length.
+// Widths stay numbers: `put_numbers` and `read_numbers` take any, as the definition `bytes_in` says.
 #[derive(Clone, Copy, Drop)]
 pub struct Shape {
     pub widths: [u8; FIELDS],
@@ -85,6 +86,17 @@ pub fn read_numbers(bytes: &[u8], widths: [u8; FIELDS]) -> [u32; FIELDS]
         from += bytes_in(*width);
     }
     numbers
+}
+
+// Stores values from `at` on, as many as there are places for.
+#[tactic(auto, using(crate::proofs::Stores::store_part, crate::proofs::Stores::store_none))]
+pub fn store<T: Copy + Drop>(places: &mut [T], at: usize, values: &[T])
+    ensures { places.new ≡ sets places.old at values.now }
+{
+    if at < places.len() {
+        let count = values.len().min(places.len() - at);
+        places[at..at + count].copy_from_slice(&values[..count]);
+    }
 }
 
 // Stores a number of 1 byte at `at`, by its index: `get_mut` says nothing of what the buffer ends as.

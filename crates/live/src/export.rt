@@ -1,6 +1,5 @@
 // The live calls as callers in C or Rust have them; the static library (crate `live_c`, include/nacozteya.h) exports them.
 ghost use Rattle.std.specs.Prelude.{◌≡◌};
-ghost use Rattle.std.proofs.lemmas.List.Edits.{sets};
 ghost use Rattle.live.specs.First.{exported_call_of, exported_look_of, exported_line_of};
 
 use crate::{call, lines, question};
@@ -16,7 +15,7 @@ pub fn nacozteya_call(
 {
     let reply = call::call_image(image, message, entries);
     let (consumed, written) = reply.map_or((0, 0), |taken| (taken.consumed, taken.written));
-    put(counts, &[consumed as u64, written as u64]);
+    layout::store(counts, 0, &[consumed as u64, written as u64]);
     register::refusal_of(reply) as u64
 }
 
@@ -27,8 +26,9 @@ pub fn nacozteya_outlook(image: &[u32], account: u16, number: u32, state: &mut [
     match question::outlook_image(image, account, number) {
         Err(refusal) => refusal.number() as u64,
         Ok(told) => {
-            put(
+            layout::store(
                 state,
+                0,
                 &[
                     image::life_word(told.state.life),
                     told.state.balance,
@@ -45,14 +45,6 @@ pub fn nacozteya_line(entry: &[u8], line: &mut [u8], counts: &mut [u64]) -> u64
     ensures { (result ≡ (exported_line_of entry.now line.old counts.old).answer) × (line.new ≡ (exported_line_of entry.now line.old counts.old).line) × (counts.new ≡ (exported_line_of entry.now line.old counts.old).counts) }
 {
     let lined = lines::write_entry_line(entry, line).unwrap_or_default();
-    put(counts, &[lined.entry as u64, lined.line as u64]);
+    layout::store(counts, 0, &[lined.entry as u64, lined.line as u64]);
     lined.line as u64
-}
-
-// Stores values in the first places, as many as there are.
-fn put<T: Copy + Drop>(places: &mut [T], values: &[T])
-    ensures { places.new ≡ sets places.old 0 values.now }
-{
-    let count = values.len().min(places.len());
-    places[..count].copy_from_slice(&values[..count]);
 }

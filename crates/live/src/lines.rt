@@ -9,8 +9,8 @@ pub struct Lined {
     pub line: usize,
 }
 
-#[tactic(auto, unfolding(crate::specs::Lines::line_of_entry))]
 // Writes the line of the entry that the bytes begin with to the beginning of a buffer; nothing where they begin with none, or where there is too little room for the longest line.
+#[tactic(auto, unfolding(crate::specs::Lines::line_of_entry))]
 pub fn write_entry_line(bytes: &[u8], buffer: &mut [u8]) -> Option<Lined>
     ensures lined { result ≡ (line_of_entry bytes.now buffer.old).lined }
     ensures buffer { buffer.new ≡ (line_of_entry bytes.now buffer.old).buffer }

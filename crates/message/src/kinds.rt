@@ -1,5 +1,4 @@
 // The kinds of messages and how each lies in bytes.
-
 ghost use Rattle.std.specs.Prelude.{◌≡◌};
 ghost use Rattle.layout.specs.Fields.{row_of_kind};
 ghost use Rattle.layout.specs.Shapes.{shape_of};
@@ -87,8 +86,5 @@ const HEADING_ALONE: Shape = Shape {
 pub(crate) fn shape_of(number: u8) -> Shape
     ensures { result ≡ shape_of (row_of_kind messages number) }
 {
-    match Kind::try_from(number) {
-        Ok(kind) => kind.shape(),
-        Err(_) => Shape::NONE,
-    }
+    Kind::try_from(number).map_or(Shape::NONE, Kind::shape)
 }

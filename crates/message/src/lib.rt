@@ -93,6 +93,7 @@ impl Message {
         }
     }
 
+    // What every message brings.
     fn heading(self) -> Heading
         ensures { result ≡ heading_of self }
     {

@@ -9,6 +9,7 @@ fn main() {
     let mut out = [0u8; text::LONGEST_TEXT];
     let mut served = text::begin(&input[..count], &mut out);
     print(&out, served.written);
+    // A `while`: how far it goes on, each message tells.
     while served.from < count {
         served = text::serve(served, &input[..count], &mut out);
         print(&out, served.written);

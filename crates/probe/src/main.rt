@@ -56,7 +56,7 @@ fn lines(input: &[u8], page: &mut Page) {
     writeln!(page, "end {}", Frames(input).count());
 }
 
-// Answers a frame, and puts what it has to say.
+// Answers a frame, and puts what it has to say. The codes are those of docs/PROBE.md.
 fn answer(register: &mut Register, frame: Frame<'_>, page: &mut Page) -> Result<(), Unknown> {
     let payload = frame.payload;
     match frame.code {

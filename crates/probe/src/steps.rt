@@ -25,6 +25,7 @@ pub(crate) fn step(
         .accounts
         .get_mut(heading.account as usize)
         .ok_or(Unknown)?;
+    // The methods themselves, and not `register::step`: this frame shows them.
     let answer = match message {
         Message::Request(_, event) => account.request(heading.transaction, heading.filed, event),
         Message::Commit(_) => account.commit(heading.transaction, heading.filed),

@@ -1,6 +1,7 @@
 -- By computing, refusal by refusal.
 -- Assumes nothing.
-use Rattle.std.proofs.Common.{◌≡◌, ◌<◌, ◌≤◌, arith, refl}
+use Rattle.std.proofs.Common.{◌≡◌, ℕ, ◌<◌, ◌≤◌, arith, refl}
+use Rattle.std.proofs.lemmas.Bool.Decides.{nat_tests}
 use Rattle.refusal.specs.declared.Refusal.{Refusal}
 use Rattle.refusal.specs.declared.Refusal.TheVariants.{Torn, UnknownKind, UnknownAccount, NoRoom, NotInOrder, KnownTransaction, AllHeld, UnknownTransaction, HeldTransaction, CommittedAlready, CommittedBefore, NoSuchOutcome}
 use Rattle.refusal.specs.Numbers.{number_of, numbered}
@@ -34,6 +35,9 @@ none_else CommittedAlready = (omega arith, omega arith)
 none_else CommittedBefore = (omega arith, omega arith)
 none_else NoSuchOutcome = (omega arith, omega arith)
 
+numbers : (n : ℕ) → 0 < n → n ≤ 12 → number_of (numbered n) ≡ n
+numbers n low high = grind (arith, nat_tests)
+
 pub literal-holds : LiteralHolds
 literal-holds =
     record {
@@ -42,5 +46,6 @@ literal-holds =
       of_decisions = refl;
       of_questions = refl;
       told = told;
+      numbers = numbers;
       none_else = none_else;
     }

@@ -12,4 +12,5 @@ pub record LiteralHolds : Type 0 where
   pub of_decisions : map number_of (UnknownTransaction ∷ HeldTransaction ∷ CommittedAlready ∷ CommittedBefore ∷ []) ≡ 8 ∷ 9 ∷ 10 ∷ 11 ∷ []
   pub of_questions : number_of NoSuchOutcome ≡ 12
   pub told : (r : Refusal) → numbered (number_of r) ≡ r
+  pub numbers : (n : ℕ) → 0 < n → n ≤ 12 → number_of (numbered n) ≡ n
   pub none_else : (r : Refusal) → (0 < number_of r) × (number_of r ≤ 12)

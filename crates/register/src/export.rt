@@ -9,13 +9,16 @@ pub fn nacozteya_run(messages: &[u8], entries: &mut [u8], counts: &mut [u64]) ->
     ensures { (result ≡ (export_of messages.now entries.old counts.old).answer) × (entries.new ≡ (export_of messages.now entries.old counts.old).entries) × (counts.new ≡ (export_of messages.now entries.old counts.old).counts) }
 {
     let ran = runs::run(messages, entries);
-    let numbers = [
-        ran.met as u64,
-        ran.refused as u64,
-        ran.consumed as u64,
-        ran.written as u64,
-    ];
-    let places = counts.len().min(numbers.len());
-    counts[..places].copy_from_slice(&numbers[..places]);
-    ran.written as u64
+    let written = ran.written as u64;
+    layout::store(
+        counts,
+        0,
+        &[
+            ran.met as u64,
+            ran.refused as u64,
+            ran.consumed as u64,
+            written,
+        ],
+    );
+    written
 }

@@ -32,6 +32,7 @@ pub fn run(messages: &[u8], entries: &mut [u8]) -> Ran
 {
     let mut register = Register::fresh();
     let mut ran = Ran::default();
+    // A `while`: how far it goes on, each reply tells.
     while ran.consumed < messages.len() {
         let rest = &messages[ran.consumed..];
         let whole = message::whole_length(layout::number1(rest, 0));
@@ -84,12 +85,9 @@ pub fn passed_by(reply: Result<Taken, Refusal>, whole: usize) -> Passed
     }
 }
 
-// The number of a refusal; 0 where the message was taken.
+// The number of a refusal; 0 where the message was taken, as callers in C have it.
 pub fn refusal_of(reply: Result<Taken, Refusal>) -> u8
     ensures { result ≡ reply_number reply }
 {
-    match reply {
-        Ok(_) => 0,
-        Err(refusal) => refusal.number(),
-    }
+    reply.err().map_or(0, Refusal::number)
 }

@@ -1,44 +1,17 @@
 -- A line as it grows: what is put behind what it keeps is put behind all that was put before, and stored text is a run of stores.
 -- Assumes nothing.
-use Prim.Native.Nat.{ℕ, zero, suc, ◌+◌, ◌-◌, ◌≤◌, ◌<◌, min}
+use Prim.Native.Nat.{ℕ, zero, suc, ◌+◌, ◌-◌, ◌≤◌, min}
 use native.Mathlib.Omega.{arith}
 use mathlib.Core.Path.{◌≡◌, refl, sym, ◌∙◌, ap}
 use mathlib.Core.List.{List, [], ◌∷◌, ◌++◌, append-nil, append_assoc}
 use lib.Dec.{lit≤}
-use lib.ListN.{length, take, drop, set, length-set}
-use lib.Seq.{sets, sets-eq, take-append-add, take_all, length-take-le}
+use lib.ListN.{length, take}
+use lib.Seq.{take-append-add, length-take-le}
 use borrow.Rule.Slice.PartMut.{put_mid}
-use Rattle.std.proofs.Math.Nat.{min_comm}
-use Rattle.std.proofs.lemmas.List.{take_min, take-take}
-use Rattle.std.proofs.lemmas.Slice.{take-put_mid, put_mid-paste}
-use Rattle.layout.proofs.Stores.{sets-out}
+use Rattle.std.proofs.lemmas.List.{take-take}
+use Rattle.std.proofs.lemmas.Slice.{take-put_mid}
+use Rattle.layout.proofs.Stores.{least_part}
 use Rattle.text.specs.Text.{spaced, longest_line, kept}
-
--- ---- storing
-
--- of stores that go past the end, those within the list are all
-sets-within : (text l : List ℕ) (at n : ℕ) → length l ≤ at + n → sets l at (take n text) ≡ sets l at text
-sets-within [] l at zero h = refl
-sets-within [] l at (suc n) h = refl
-sets-within (x ∷ text) l at zero h = sym (sets-out (x ∷ text) l at (omega arith))
-sets-within (x ∷ text) l at (suc n) h = sets-within text (set l at x) (suc at) n (omega (arith, length-set l at x))
-
-least-text : (text : List ℕ) (n : ℕ) → take (min (length text) n) text ≡ take n text
-least-text text n = rw min_comm (take_min n text)
-
--- the part of a list that text fills, as far as there is room for it
-pub store_part : (text part l : List ℕ) (at count : ℕ) → at < length l → count ≡ min (length text) (length l - at) → part ≡ take count text
-    → put_mid at (at + count - at) l part ≡ sets l at text
-store_part text part l at count h least is =
-    let these = take count text in
-    let n : length these ≡ count = length-take-le count text (omega arith) in
-    let all : sets l at these ≡ sets l at text = rw (least, least-text text (length l - at)) (sets-within text l at (length l - at) (omega arith)) in
-    let laid : sets l at these ≡ take at l ++ these ++ drop (at + count) l = rw n at (sets-eq these l at (omega (arith, n))) in
-    put_mid-paste at (at + count - at) l part these count is (omega arith) (sym n)
-    ∙ ap (λ (x : List ℕ). take at l ++ x ++ drop (at + count) l) (take_all count these (omega arith)) ∙ sym laid ∙ all
-
-pub store_none : (text l : List ℕ) (at : ℕ) → length l ≤ at → l ≡ sets l at text
-store_none text l at h = sym (sets-out text l at h)
 
 -- ---- growing
 
@@ -64,7 +37,7 @@ letters_put letters part line size count whole h least is =
     let n : length part ≡ count = rw is (length-take-le count letters (omega arith)) in
     let first : length (take size line) ≡ size = length-take-le size line (omega arith) in
     let room : length (take size line) + (longest_line - size) ≡ longest_line = omega arith in
-    let these : part ≡ take (longest_line - size) letters = is ∙ rw least (least-text letters (longest_line - size)) in
+    let these : part ≡ take (longest_line - size) letters = is ∙ rw least (least_part letters (longest_line - size)) in
     take-put_mid size (size + count - size) line part (size + count) (omega arith) (omega arith)
     ∙ ap (λ (x : List ℕ). take size line ++ x) these
     ∙ sym (take-append-add (take size line) letters (longest_line - size))

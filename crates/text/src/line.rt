@@ -1,6 +1,5 @@
 // An entry's line of text, and the pieces that every line is made of.
 ghost use Rattle.std.specs.Prelude.{ℕ, List, [], ◌∷◌, ◌++◌, ◌≡◌, ◌<◌, ◌≤◌, length, take};
-ghost use Rattle.std.proofs.lemmas.List.Edits.{sets};
 ghost use Rattle.events.specs.Kinds.{amount_of};
 ghost use Rattle.text.specs.Text.{decimal, event_name, spaced, line_as, longest_line, kept, write_line_of};
 
@@ -21,22 +20,11 @@ pub fn write_line(found: Found, buffer: &mut [u8]) -> Result<usize, Refusal>
         return Err(Refusal::NoRoom);
     }
     let line = Line::of(found.entry, found.kind == 18, found.account);
-    store(buffer, 0, line.as_slice());
+    layout::store(buffer, 0, line.as_slice());
     Ok(line.len())
 }
 
-// Stores text from `at` on; a byte past the end is not stored, so that `at` may stand where no part of the buffer begins.
-#[tactic(auto, using(crate::proofs::Texts::store_part, crate::proofs::Texts::store_none))]
-pub(crate) fn store(buffer: &mut [u8], at: usize, text: &[u8])
-    ensures { buffer.new ≡ sets buffer.old at text.now }
-{
-    if at < buffer.len() {
-        let count = text.len().min(buffer.len() - at);
-        buffer[at..at + count].copy_from_slice(&text[..count]);
-    }
-}
-
-// A line as it grows: a byte that is past the longest line is not kept.
+// A line as it grows, in fixed memory: a byte that is past the longest line is not kept.
 #[derive(Drop)]
 pub(crate) struct Line {
     letters: [u8; LONGEST_LINE],

@@ -16,6 +16,7 @@ pub const LONGEST_INPUT: usize = 65_536;
 pub const LONGEST_TEXT: usize = Entries::MOST * crate::LONGEST_LINE;
 
 // What has been served of an input: the register, where the next message starts, the messages met and refused, and how long the last text was.
+// The end of the input stands for no message, as `begin_of` and `Serves` have it.
 #[derive(Clone, Copy, Drop)]
 pub struct Served {
     pub register: Register,
@@ -35,7 +36,7 @@ pub fn begin(input: &[u8], out: &mut [u8]) -> Served
     } else {
         (b"register 1\n", 0)
     };
-    line::store(out, 0, text);
+    layout::store(out, 0, text);
     Served {
         register: Register::fresh(),
         from,
@@ -79,7 +80,7 @@ pub fn finish(served: Served, input: &[u8], out: &mut [u8]) -> usize
     line.put_number(served.met);
     line.put_number(served.refused);
     line.put(b"\n");
-    line::store(out, 0, line.as_slice());
+    layout::store(out, 0, line.as_slice());
     line.len()
 }
 

@@ -61,7 +61,7 @@ fn put_refusal(out: &mut [u8], refusal: Refusal) -> usize
     line.put(b"refused");
     line.put_number(u32::from(refusal.number()));
     line.put(b"\n");
-    line::store(out, 0, line.as_slice());
+    layout::store(out, 0, line.as_slice());
     line.len()
 }
 
@@ -72,7 +72,7 @@ fn put_lines(out: &mut [u8], entries: Entries, account: u16) -> usize
     let mut at = 0;
     for entry in entries.as_slice() {
         let line = Line::of(*entry, false, account);
-        line::store(out, at, line.as_slice());
+        layout::store(out, at, line.as_slice());
         at += line.len();
     }
     at

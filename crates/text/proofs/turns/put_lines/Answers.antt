@@ -11,5 +11,5 @@ loop-entry-preserved c =
     let entries = c.as_slice-entry-items.result.now in
     let v = c.loop-entry in
     let line = c.of-line.ensures in
-    lined-more entries c.args.account c.args.out.now v.out v.at v.entry-index v.invariant _ c.len-at.result c.store.new.buffer c.loop-entry-test.true
+    lined-more entries c.args.account c.args.out.now v.out v.at v.entry-index v.invariant _ c.len-at.result c.store.new.places c.loop-entry-test.true
     (rw line at c.len-at.ensures.length) c.len-at.ensures.room (rw (c.as_slice.ensures, line) at c.store.ensures)
