@@ -34,7 +34,7 @@ use Rattle.account.specs.Places.{RuleAccount, padded, lists_of, account_of}
 use Rattle.account.specs.InOrder.{in_order_by}
 use Rattle.account.specs.Steps.{taken_step}
 use Rattle.account.specs.inside.Known.{KnowsBy, DecidesBy}
-use Rattle.account.specs.inside.Taken.{taken_as}
+use Rattle.account.specs.inside.Taken.{taken_as, begun}
 use Rattle.account.proofs.Padded.{RowOf, progress-row, held-row, state-is, account-is}
 use Rattle.account.proofs.Ranged.{Ranged}
 use Rattle.account.proofs.Ordered.{ordered}
@@ -70,7 +70,7 @@ module _ (R : rule.Rule State Event ℕ) (a : Account) (x : RuleAccount) (lists 
 
   module _ (entries : Entries) (only : entries ≡ only_entry (entry_of (rule.voted t g e (weighing_of w)))) where
     pub asked-accept : w.verdict ≡ Accepted → a.progressing < places
-        → taken_step (record { state = a.state; progress = set a.progress a.progressing request_slot; progressing = a.progressing + 1; held = a.held; holding = a.holding }) entries
+        → taken_step (begun a request_slot) entries
         ≡ taken_as (asked R x t g e)
     asked-accept v free =
         let more = row_more a.progress a.progressing x.progress request_slot (progress-row a x lists) free in

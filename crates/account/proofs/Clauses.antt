@@ -1,8 +1,8 @@
 -- An account in order, by its clauses: the counts, the blanks, and the rule's own on the lists.
 -- Assumes nothing.
 use Prim.Native.Nat.{ℕ, ◌≤◌}
-use mathlib.Core.Path.{◌≡◌}
-use mathlib.Core.Bool.{true, ◌&&◌}
+use mathlib.Core.Path.{◌≡◌, sym, ◌∙◌}
+use mathlib.Core.Bool.{Bool, true, ◌&&◌}
 use lib.Dec.{leb}
 use lib.ListN.{drop}
 use borrow.Author.Tests.{leb-true, le-leb}
@@ -13,10 +13,11 @@ use Rattle.rule.proofs.Lists.{and_left, and_right}
 use Rattle.rule.proofs.InOrder.{order-clauses}
 use Rattle.events.specs.declared.Event.{Event}
 use Rattle.events.specs.declared.State.{State}
-use Rattle.filing.specs.Slots.{is_blank}
+use Rattle.filing.specs.Slots.{is_blank, places}
 use Rattle.account.specs.declared.Account.{Account}
 use Rattle.account.specs.Places.{lists_of}
 use Rattle.account.specs.InOrder.{in_order_by}
+use Rattle.account.specs.First.{panel, in_order_of}
 
 module _ (R : Rule State Event ℕ) (a : Account) where
   pub record Clauses : Type 0 where
@@ -53,3 +54,7 @@ module _ (R : Rule State Event ℕ) (a : Account) where
   -- the rule's clauses, each by its name
   pub rule-clauses : in_order_by R a ≡ true → rule-order.InOrder R (lists_of a)
   rule-clauses h = order-clauses R (lists_of a) (clauses h).lists
+
+-- an account that the test finds in order has no more events in progress than places
+pub few_progressing : (a : Account) → (found : Bool) → found ≡ in_order_of a → found ≡ true → a.progressing ≤ places
+few_progressing a found e h = (clauses panel a (sym e ∙ h)).progressing

@@ -1,12 +1,18 @@
--- Where the transactions are apart, the slot that was found is the only one of its transaction.
+-- Where a transaction stands in a row, and that the slot found there is the only one of its transaction where the transactions are apart.
 -- Assumes nothing.
-use Prim.Native.Nat.{ℕ, suc, ◌<◌}
-use mathlib.Core.Path.{◌≡◌, sym, ap, ◌∙◌}
-use mathlib.Core.Bool.{Bool, true, false}
+use Prim.Native.Nat.{ℕ, suc, ◌+◌, ◌<◌}
+use mathlib.Core.Path.{◌≡◌, refl, sym, ap, ◌∙◌}
+use mathlib.Core.Bool.{Bool, true, false, cond}
 use mathlib.Core.List.{List, [], ◌∷◌, ◌++◌, map, append_assoc}
+use lib.Dec.{eqb}
 use lib.ListN.{length, get_or, take, drop}
 use lib.Seq.{split_at}
-use borrow.Author.Tests.{eq-eqb}
+use borrow.Author.Tests.{eq-eqb, eqb-true, ltb-true}
+use Rattle.std.specs.Prelude.{Option, None, Some}
+use Rattle.std.specs.List.{position, position_from}
+use Rattle.std.proofs.lemmas.Option.{cond_some, none-some}
+use Rattle.std.proofs.lemmas.List.Sums.{passes_at_first}
+use Rattle.std.proofs.lemmas.Iterator.Adapters.{position_from-zero}
 use Rattle.rule.specs.Lists.{some_of, keep}
 use Rattle.rule.specs.InOrder.{apart}
 use Rattle.rule.specs.Step.{named}
@@ -14,6 +20,34 @@ use Rattle.rule.proofs.Lists.{or_left, or_right, map-append, some-append, keep_a
 use Rattle.rule.proofs.Apart.{apart-at}
 use Rattle.filing.specs.declared.Slot.{Slot}
 use Rattle.filing.specs.Slots.{RuleSlot, slot_of, decision_of, blank}
+
+-- where there is no place, it is none
+pub no-place : (o : Option ℕ) → ((at : ℕ) → o ≡ Some at → ⊥) → o ≡ None
+no-place None h = refl
+no-place (Some at) h = absurd (h at refl)
+
+-- the place at which a transaction was found in a row, and that it stands nowhere in one where it was not
+module _ (t : ℕ) where
+  abbrev pub place_of : List Slot → Option ℕ
+  place_of row = position (λ (x : Slot). eqb t x.transaction) row
+
+  pub found-there : (row : List Slot) (at : ℕ) → place_of row ≡ Some at → (at < length row) × ((get_or row at blank).transaction ≡ t)
+  found-there row at e =
+      let first = cond_some _ _ _ e in
+      let below = ltb-true _ _ first.0 in
+      let stands = sym (eqb-true _ _ (passes_at_first (λ (x : Slot). eqb t x.transaction) row blank below)) in
+      (rw first.1 at below, rw first.1 at stands)
+
+  neither : (b : Bool) (i : ℕ) (o : Option ℕ) → cond b (Some i) o ≡ None → (b ≡ false) × (o ≡ None)
+  neither true i o e = absurd (none-some i (sym e))
+  neither false i o e = (refl, e)
+
+  nowhere_from : (i : ℕ) (row : List Slot) → position_from (λ (x : Slot). eqb t x.transaction) i row ≡ None → some_of (named t) (map slot_of row) ≡ false
+  nowhere_from i [] e = refl
+  nowhere_from i (x ∷ xs) e = let both = neither (eqb t x.transaction) i _ e in rw both.0 (nowhere_from (i + 1) xs both.1)
+
+  pub found-nowhere : (row : List Slot) → place_of row ≡ None → some_of (named t) (map slot_of row) ≡ false
+  found-nowhere row e = nowhere_from 0 row (sym (position_from-zero _ row) ∙ e)
 
 -- the slots before a place, the one at it, those behind it
 pub slot-parts : (row : List Slot) (at : ℕ) (x : Slot) → at < length row → get_or row at blank ≡ x → map slot_of row ≡ map slot_of (take at row) ++ (slot_of x ∷ map slot_of (drop (suc at) row))

@@ -1,6 +1,6 @@
 // Whether an account is in order, clause by clause (docs/REGISTER.md, 6), and what is found on the way: the outcomes of the events in progress, and where a transaction stands.
-ghost use Rattle.std.specs.Prelude.{◌≡◌, ◌≤◌, ◌+◌, ◌++◌, length, map, true};
-ghost use Rattle.std.specs.List.{list_all};
+ghost use Rattle.std.specs.Prelude.{◌≡◌, ◌≤◌, ◌+◌, ◌++◌, eqb, length, map, true};
+ghost use Rattle.std.specs.List.{list_all, position};
 ghost use Rattle.std.specs.List.Sorted.{IsStrictlyIncreasing};
 ghost use Rattle.rule.specs.InOrder as order;
 ghost use Rattle.filing.specs.declared.Slot.{Slot};
@@ -98,6 +98,7 @@ fn differ(events: &[Slot], requests: &[Slot]) -> bool
     ensures { result ≡ order.apart (map slot_of events.now ++ map slot_of requests.now) }
 {
     let mut transactions = [0; Account::BOTH];
+    // By index: a proof knows nothing of what an adapter of `iter_mut` wrote.
     for (at, slot) in events.iter().enumerate() {
         transactions[at] = slot.transaction;
     }
@@ -131,15 +132,16 @@ fn pairs_differ(numbers: &[u32]) -> bool
 fn find(transaction: u32, events: &[Slot], requests: &[Slot]) -> Option<Found>
     ensures { Finds transaction events.now requests.now result }
 {
-    for (at, slot) in events.iter().enumerate() {
-        if slot.transaction == transaction {
-            return Some(Found::InProgress(at, *slot));
-        }
+    if let Some(at) = place_of(transaction, events) {
+        return Some(Found::InProgress(at, events[at]));
     }
-    for slot in requests {
-        if slot.transaction == transaction {
-            return Some(Found::OnHold(*slot));
-        }
-    }
-    None
+    let at = place_of(transaction, requests)?;
+    Some(Found::OnHold(requests[at]))
+}
+
+// The place of a transaction in a row.
+fn place_of(transaction: u32, row: &[Slot]) -> Option<usize>
+    ensures { result ≡ position (λ (x : Slot). eqb transaction x.transaction) row.now }
+{
+    row.iter().position(|slot| transaction == slot.transaction)
 }

@@ -11,6 +11,7 @@ use events::State;
 use filing::Slot;
 
 // An account: the first `progressing` places of `progress` and the first `holding` of `held` are used, in arrival order; the others are blank.
+// Memory is fixed: arrays with their counts, each of which `AccountForm` names.
 #[derive(Clone, Copy, Drop)]
 pub struct Account {
     pub state: State,

@@ -21,28 +21,29 @@ pub(crate) struct Outcomes {
     pub(crate) range: Range,
     pub(crate) number: u32,
     pub(crate) first: State,
+    // A flag, and no Option: order is judged with no branch between its tests.
     pub(crate) guarded: bool,
 }
 
 impl Outcomes {
     // The one outcome of no events.
-    pub(crate) fn of(s: State) -> Outcomes
-        ensures { Knows s [] result }
+    pub(crate) fn of(state: State) -> Outcomes
+        ensures { Knows state [] result }
     {
         Outcomes {
-            range: Range::of(s),
+            range: Range::of(state),
             number: 1,
-            first: s,
+            first: state,
             guarded: true,
         }
     }
 
     // The outcomes of these events in progress, an event at a time.
-    pub(crate) fn after(s: State, events: &[Slot]) -> Outcomes
+    pub(crate) fn after(state: State, events: &[Slot]) -> Outcomes
         requires { length events.now ≤ places }
-        ensures { Knows s (map slot_of events.now) result }
+        ensures { Knows state (map slot_of events.now) result }
     {
-        let mut outcomes = Outcomes::of(s);
+        let mut outcomes = Outcomes::of(state);
         for slot in events {
             outcomes = outcomes.with(slot.event, slot.decision);
         }
@@ -86,7 +87,7 @@ impl Outcomes {
         }
     }
 
-    // The reason of a rejection, the one in outcome 0 (4.7); 0 for any other verdict.
+    // The reason of a rejection, the one in outcome 0 (4.7), as the byte that `Weighing` has; 0 for any other verdict.
     fn reason(&self, verdict: Verdict, event: Event) -> u8
         ensures { result ≡ reason_byte (reason_by (verdict_of verdict) (reason_of event self.now.first)) }
     {

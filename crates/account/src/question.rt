@@ -18,6 +18,7 @@ struct Reached {
 impl Account {
     // The state in the outcome of this number, and the number of undecided events applied in it; not in order, then no such outcome, where it is refused.
     // What is left of the number past all events is 0 exactly if there is an outcome of that number.
+    #[tactic(auto, using(crate::proofs::Clauses::few_progressing))]
     pub fn outlook(&self, number: u32) -> Result<Outlook, Refusal>
         ensures { result ≡ outlook_of self.now number }
     {
@@ -28,8 +29,7 @@ impl Account {
             state: self.state,
             left: number,
         };
-        let (events, _) = self.progress.split_at(self.progressing);
-        for slot in events {
+        for slot in &self.progress[..self.progressing] {
             reached = reached.past(*slot);
         }
         if 0 < reached.left {

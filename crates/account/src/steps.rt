@@ -1,12 +1,13 @@
 // The steps of an account: request, commit and abort, and what follows every commit and abort (docs/REGISTER.md, 4.6 and 5).
-// Each works on the account in place, with its loop in its own body.
-ghost use Rattle.std.specs.Prelude.{◌≡◌, ◌≤◌, ◌+◌, length, map};
+// Each works on the account in place; rows go by index, since places move up in the row that is read.
+ghost use Rattle.std.specs.Prelude.{◌≡◌, ◌<◌, ◌≤◌, ◌+◌, length, map};
 ghost use Rattle.rule.specs.Rule.{request, commit, abort};
 ghost use Rattle.rule.specs.Step.{without};
 ghost use Rattle.filing.specs.Slots.{places, slot_of};
 ghost use Rattle.filing.specs.Entries.{most};
 ghost use Rattle.account.specs.Places.{padded};
 ghost use Rattle.account.specs.First.{step_of};
+ghost use Rattle.account.specs.inside.Taken.{begun};
 ghost use Rattle.account.specs.inside.First.{Settles, Drains};
 
 use crate::Account;
@@ -38,10 +39,7 @@ impl Account {
             decision: Decision::Undecided,
         };
         match weighing.verdict {
-            Verdict::Accepted => {
-                self.progress[self.progressing] = slot;
-                self.progressing += 1;
-            }
+            Verdict::Accepted => self.begin(slot),
             Verdict::Rejected => {}
             Verdict::Held => {
                 self.held[self.holding] = slot;
@@ -57,7 +55,7 @@ impl Account {
         ensures account { self.new ≡ (step_of self.old (commit transaction filed)).account }
     {
         let at = self.judge(transaction)?.for_commit()?;
-        self.progress[at].decision = Decision::Committed;
+        self.progress[at] = self.progress[at].committed();
         Ok(self.settle(Entry::noted(transaction, filed)))
     }
 
@@ -110,8 +108,7 @@ impl Account {
             self.held[at] = Slot::BLANK;
             if (at == voted) & !weighing.verdict.is_held() {
                 if weighing.verdict.is_accepted() {
-                    self.progress[self.progressing] = slot;
-                    self.progressing += 1;
+                    self.begin(slot);
                     outcomes = outcomes.with(slot.event, Decision::Undecided);
                 }
                 entries.push(Entry::voted(slot, weighing));
@@ -121,6 +118,15 @@ impl Account {
             }
         }
         self.holding -= voted;
+    }
+
+    // One event more is in progress, the newest.
+    fn begin(&mut self, slot: Slot)
+        requires { self.old.progressing < places }
+        ensures { self.new ≡ begun self.old slot }
+    {
+        self.progress[self.progressing] = slot;
+        self.progressing += 1;
     }
 }
 

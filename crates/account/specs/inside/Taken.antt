@@ -1,6 +1,6 @@
 -- A step that is taken, as the account's own helpers have it: the rule's step in places, over any rule of the events (docs/REGISTER.md, 5 and 9.4).
 -- Assumes nothing.
-use Rattle.std.specs.Prelude.{ℕ, ◌≡◌, true, List, [], ◌∷◌}
+use Rattle.std.specs.Prelude.{ℕ, ◌+◌, ◌≡◌, true, List, [], ◌∷◌, set}
 use Rattle.rule.specs.Lists.{every}
 use Rattle.rule.specs.Rule.{Rule}
 use Rattle.rule.specs.InOrder.{without_decision, guarded}
@@ -8,6 +8,7 @@ use Rattle.rule.specs.Step as rule-step
 use Rattle.events.specs.declared.Event.{Event}
 use Rattle.events.specs.declared.State.{State}
 use Rattle.filing.specs.declared.Filed.{Filed}
+use Rattle.filing.specs.declared.Slot.{Slot}
 use Rattle.filing.specs.declared.Entry.{Entry}
 use Rattle.filing.specs.declared.Entries.{Entries}
 use Rattle.filing.specs.Slots.{RuleSlot}
@@ -26,6 +27,10 @@ taken_as step = taken_step (account_of step.account) (entries_of step.entries)
 -- an account of the rule
 abbrev pub listed : State → (progress held : List RuleSlot) → RuleAccount
 listed s progress held = record { state = s; progress = progress; held = held }
+
+-- with one event more in progress, the newest
+abbrev pub begun : Account → Slot → Account
+begun a x = record { state = a.state; progress = set a.progress a.progressing x; progressing = a.progressing + 1; held = a.held; holding = a.holding }
 
 module _ (R : Rule State Event ℕ) where
   -- what follows a commit or an abort of an account that is its lists', whose requests held have no decision, behind the call's own entry

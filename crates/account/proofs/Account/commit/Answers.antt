@@ -54,6 +54,6 @@ returns c =
     let says = ap number_in r.ensures ∙ commit-refusal panel self (omega arith) a.transaction a.filed o found j.finds in
     let there = marked-there panel self (omega arith) a.transaction a.filed o found j.finds c.in_ok-at.at (sym r.ensures ∙ c.in_ok-at.was) in
     let same =
-    commit-settled panel self (omega arith) own a.transaction a.filed c.in_ok-at.at there.0 there.1 c.noted.result c.noted.ensures c.settle.new.self c.settle.result c.settle.ensures
+    commit-settled panel self (omega arith) own a.transaction a.filed c.in_ok-at.at there.0 there.1 c.noted.result c.noted.ensures c.settle.new.self c.settle.result (rw c.committed.ensures at c.settle.ensures)
     ∙ step-taken panel self m o r.result says _ c.in_ok-at.was in
     record { answer = ap (λ (s : Stepped). s.answer) same; account = ap (λ (s : Stepped). s.account) same }

@@ -32,7 +32,7 @@ loop-at-preserved c =
           let entry = w.voted in
           elim w.if-is_accepted.branch [
             | then-is_accepted u ↦
-                rw (w.self-is, w.entries-is, w.push.ensures, w.outcomes-is, w.voted-is, u.self-is, u.outcomes-is)
+                rw (w.self-is, w.entries-is, w.push.ensures, w.outcomes-is, w.voted-is, u.self-is, u.begin.ensures, u.outcomes-is)
                 (voting-accept _ a.self.now a.entries.now v.self v.entries v.outcomes v.voted v.at v.invariant below weigh.result weigh.ensures entry.result entry.ensures first first-ranged u.with-outcomes.result (sym w.is_accepted.ensures ∙ u.if-is_accepted.true) u.with-outcomes.ensures)
             | else-is_accepted u ↦
                 rw (w.self-is, w.entries-is, w.push.ensures, w.outcomes-is, w.voted-is, u.self-is, u.outcomes-is)

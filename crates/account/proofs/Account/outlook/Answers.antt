@@ -12,19 +12,14 @@ use Rattle.account.proofs.Account.outlook.Goals as goal
 pub returns-then-not-in_order : goal.returns-then-not-in_order
 returns-then-not-in_order c = outlook-order _ c.args.self.now c.args.number (sym c.in_order.ensures ∙ c.if-not-in_order.true)
 
-pub split_at-requires : goal.split_at-requires
-split_at-requires c =
-    let few = (clauses panel c.args.self.now (sym c.in_order.ensures ∙ c.if-not-in_order.false)).progressing in
-    omega arith
-
 pub loop-slot-preserved : goal.loop-slot-preserved
 loop-slot-preserved c =
     let a = c.args.self.now in
     let v = c.loop-slot in
     let few = (clauses panel a (sym c.in_order.ensures ∙ c.if-not-in_order.false)).progressing in
     let room : a.progressing ≤ length a.progress = omega arith in
-    let below : v.slot-index < a.progressing = omega (arith, c.split_at.ensures.front_len) in
-    rw (c.past-reached.ensures, c.split_at.ensures.front, get_or-take a.progressing a.progress v.slot-index blank below) (reached-next panel v.reached a.progressing a.progress v.slot-index below room)
+    let below : v.slot-index < a.progressing = omega arith in
+    rw (c.past-reached.ensures, get_or-take a.progressing a.progress v.slot-index blank below) (reached-next panel v.reached a.progressing a.progress v.slot-index below room)
     ∙ v.invariant
 
 pub returns-then-reached-gt0 : goal.returns-then-reached-gt0
@@ -32,7 +27,7 @@ returns-then-reached-gt0 c =
     let a = c.args.self.now in
     let v = c.loop-slot in
     let few = (clauses panel a (sym c.in_order.ensures ∙ c.if-not-in_order.false)).progressing in
-    let past : a.progressing ≤ v.slot-index = omega (arith, c.split_at.ensures.front_len) in
+    let past : a.progressing ≤ v.slot-index = omega arith in
     let end = reached-end panel v.reached a.progressing a.progress v.slot-index past ∙ v.invariant in
     let left = ap (λ (r : Reached). r.left) end in
     outlook-none panel a c.args.number (sym c.in_order.ensures ∙ c.if-not-in_order.false) (omega (arith, c.if-reached-gt0.true))
@@ -42,7 +37,7 @@ returns c =
     let a = c.args.self.now in
     let v = c.loop-slot in
     let few = (clauses panel a (sym c.in_order.ensures ∙ c.if-not-in_order.false)).progressing in
-    let past : a.progressing ≤ v.slot-index = omega (arith, c.split_at.ensures.front_len) in
+    let past : a.progressing ≤ v.slot-index = omega arith in
     let end = reached-end panel v.reached a.progressing a.progress v.slot-index past ∙ v.invariant in
     let left = ap (λ (r : Reached). r.left) end in
     rw end (outlook-there panel a c.args.number (sym c.in_order.ensures ∙ c.if-not-in_order.false) (omega (arith, c.if-reached-gt0.false)))

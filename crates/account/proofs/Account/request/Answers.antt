@@ -59,28 +59,8 @@ returns-in_err-for_request c =
     record { answer = rw (p.1, p.2) (ap (λ (s : Stepped). s.answer) same); account = ap (λ (s : Stepped). s.account) same }
 
 -- where it is accepted a place is free in progress
-pub offset_bounds-self-self : goal.offset_bounds-self-self
-offset_bounds-self-self c =
-    let a = c.args in
-    let self = a.self.now in
-    let r = c.for_request in
-    let w = c.decide_behind-weighing in
-    let known = taken-weighed self (omega arith) (omega arith) a.transaction a.filed a.event c.in_ok-judged.ensures.0 _ c.in_ok-judged.ensures.1 r.result r.ensures _ c.in_ok-for_request.was w.result w.ensures in
-    let free = known.free (ap is_accepted c.in-Accepted.is) in
-    omega (arith, free)
-
-pub bounds-self-self : goal.bounds-self-self
-bounds-self-self c =
-    let a = c.args in
-    let self = a.self.now in
-    let r = c.for_request in
-    let w = c.decide_behind-weighing in
-    let known = taken-weighed self (omega arith) (omega arith) a.transaction a.filed a.event c.in_ok-judged.ensures.0 _ c.in_ok-judged.ensures.1 r.result r.ensures _ c.in_ok-for_request.was w.result w.ensures in
-    let free = known.free (ap is_accepted c.in-Accepted.is) in
-    omega (arith, free)
-
-pub overflow_add-self : goal.overflow_add-self
-overflow_add-self c =
+pub begin-requires : goal.begin-requires
+begin-requires c =
     let a = c.args in
     let self = a.self.now in
     let r = c.for_request in
@@ -107,7 +87,7 @@ returns c =
     let entries : c.only.result ≡ only_entry (entry_of (voted a.transaction a.filed a.event (weighing_of v))) = c.only.ensures ∙ ap only_entry c.voted.ensures in
     let behind : taken_step c.match-weighing.self c.only.result ≡ taken_as (step panel lists m) =
     elim c.match-weighing.branch [
-      | in-Accepted u ↦ rw u.self-is (asked-accept _ self lists known.lists a.transaction a.filed a.event v known.decided c.only.result entries u.in-Accepted.is (known.free (ap is_accepted u.in-Accepted.is)))
+      | in-Accepted u ↦ rw (u.self-is, u.begin.ensures) (asked-accept _ self lists known.lists a.transaction a.filed a.event v known.decided c.only.result entries u.in-Accepted.is (known.free (ap is_accepted u.in-Accepted.is)))
       | in-Rejected u ↦ rw u.self-is (asked-reject _ self lists known.lists a.transaction a.filed a.event v known.decided c.only.result entries u.in-Rejected.is)
       | in-Held u ↦ rw u.self-is (asked-hold _ self lists known.lists a.transaction a.filed a.event v known.decided c.only.result entries u.in-Held.is known.room)
     ] in

@@ -12,7 +12,7 @@ with-outcomes-requires c =
     let v = c.loop-slot in
     let events = c.args.events.now in
     let few : length (used events v.slot-index) ≤ 7 = rw (count-used events v.slot-index (omega arith)) (omega arith) in
-    knows-few _ c.args.s (used events v.slot-index) v.outcomes v.invariant few
+    knows-few _ c.args.state (used events v.slot-index) v.outcomes v.invariant few
 
 pub loop-slot-preserved : goal.loop-slot-preserved
 loop-slot-preserved c =
@@ -20,4 +20,4 @@ loop-slot-preserved c =
     let events = c.args.events.now in
     let x = get_or events v.slot-index blank in
     let below : v.slot-index < length events = omega arith in
-    rw (used-more events v.slot-index blank below) (c.with-outcomes.ensures c.args.s (used events v.slot-index) x.transaction x.filed v.invariant)
+    rw (used-more events v.slot-index blank below) (c.with-outcomes.ensures c.args.state (used events v.slot-index) x.transaction x.filed v.invariant)

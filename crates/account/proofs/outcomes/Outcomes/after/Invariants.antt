@@ -5,4 +5,4 @@ use Rattle.account.specs.inside.First.{Knows}
 use Rattle.account.proofs.outcomes.Outcomes.after.Given as goal
 
 abbrev pub invariant-loop-slot : goal.invariant-loop-slot
-invariant-loop-slot l = Knows l.fn.s (used l.events l.slot-index) l.outcomes
+invariant-loop-slot l = Knows l.fn.state (used l.events l.slot-index) l.outcomes
