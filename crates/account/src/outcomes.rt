@@ -118,7 +118,7 @@ impl Outcomes {
     }
 }
 
-// The verdict, by whether the guard is true in every outcome and whether it is in some (4.5).
+// The verdict, by whether the guard is true in every outcome and whether it is in some (4.5): a decision by two answers, and no conversion.
 fn verdict_of(every: bool, some: bool) -> Verdict
     ensures { result ≡ verdict_by every some }
 {

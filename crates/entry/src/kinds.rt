@@ -113,7 +113,7 @@ fn voted(verdict: Verdict, numbers: [u32; layout::FIELDS]) -> Option<Told>
     Some(Told::Voted(event(numbers[4], numbers[5])?, weighing))
 }
 
-// The event of a kind and an amount, if there is one: a close has the amount 0.
+// The event of a kind and an amount, if there is one: a close has the amount 0. The kind is a number of the row.
 #[tactic(auto, unfolding(events::specs::Kinds::event_of))]
 fn event(kind: u32, amount: u32) -> Option<Event>
     ensures { result ≡ event_in kind amount }
@@ -202,7 +202,7 @@ fn reason_only(weighing: Weighing) -> u32
     }
 }
 
-// An event's kind and amount, and the numbers that follow it.
+// An event's kind and amount, and the numbers that follow it: all numbers, since they become a part of the row.
 fn with_event(event: Event, number: u32, reason: u32) -> Then
     ensures { result ≡ with_event event number reason }
 {

@@ -7,6 +7,7 @@ use crate::{Event, Life, State};
 // What an event asks: that its amount is possible at all, a life, and a balance on one side of a bound.
 #[derive(Clone, Copy, Drop)]
 pub(crate) struct Condition {
+    // A flag, and no Option: all tests of a guard are asked with no branch between them.
     pub(crate) possible: bool,
     pub(crate) life: Life,
     bound: Bound,

@@ -60,7 +60,7 @@ impl Range {
         self.has(asked.life) & asked.possible & asked.takes(self.highest, self.lowest)
     }
 
-    // The range after an event that is applied in every outcome: where its guard holds in every one, that of the outcomes that follow.
+    // The range after an event that is applied in every outcome; said of events whose guard holds in all of them.
     pub fn after(self, event: Event) -> Range
         ensures { result ≡ stored_after event self }
     {

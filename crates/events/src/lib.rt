@@ -181,7 +181,7 @@ impl Life {
     }
 }
 
-// The balance and an amount; the balance alone where they are too many for four bytes.
+// The balance and an amount; the balance alone where they are too many for four bytes. The library's `checked_add`, asked at three places.
 pub(crate) fn more(balance: u32, amount: u32) -> u32
     ensures { result ≡ cond (leb (balance + amount) most) (balance + amount) balance }
 {

@@ -72,7 +72,7 @@ pub fn put_account(image: &mut [u32], from: usize, account: Account)
     put_used(image, from, account, Account::PLACES, Account::PLACES);
 }
 
-// The same, but so many places alone of those in progress and of those held: enough where the account that stands there has only blanks behind them, and this one too.
+// The same, but so many places alone of those in progress and of those held: enough where the account that stands there has only blanks behind them, and this one too. Words and a place, as the definition `stored_to` has them.
 pub fn put_used(image: &mut [u32], from: usize, account: Account, progress: usize, held: usize)
     ensures { image.new ≡ stored_to image.old from account progress held }
 {
@@ -110,6 +110,7 @@ fn read_row(words: &[u32], count: usize, row: &mut [Slot]) -> bool
     };
     let (chunks, _) = words.as_chunks::<PLACE_WORDS>();
     let mut valid = true;
+    // By index: a proof knows nothing of what an adapter of `iter_mut` wrote.
     for (i, chunk) in chunks[..reach].iter().enumerate() {
         let place = places::read_place(chunk);
         row[i] = place.slot;
@@ -129,7 +130,7 @@ fn are_zero(words: &[u32]) -> bool
     zero
 }
 
-// Stores a row of places.
+// Stores a row of places, by index as `read_row` does.
 fn put_row(words: &mut [u32], row: &[Slot])
     requires { length row.now * place_words ≤ length words.old }
     ensures { words.new ≡ sets words.old 0 (words_of_slots row.now) }

@@ -33,7 +33,7 @@ impl Shape {
     };
 }
 
-// The row of numbers of a heading, with 0 in the places behind it: what is filed is taken apart here.
+// The row of numbers of a heading, with 0 in the places behind it: what is filed is taken apart here. The kind is a number, since a row of numbers is what this makes.
 pub fn heading_numbers(kind: u8, transaction: u32, account: u16, filed: Filed) -> [u32; FIELDS]
     ensures { result ≡ padded (heading_numbers kind transaction account filed) }
 {
@@ -81,6 +81,7 @@ pub fn read_numbers(bytes: &[u8], widths: [u8; FIELDS]) -> [u32; FIELDS]
     let row = bytes_at(bytes, 0);
     let mut numbers = [0; FIELDS];
     let mut from = 0;
+    // By index: a proof knows nothing of what an adapter of `iter_mut` wrote.
     for (i, width) in widths.iter().enumerate() {
         numbers[i] = number(&row, from, *width);
         from += bytes_in(*width);
@@ -108,7 +109,7 @@ pub fn put1(buffer: &mut [u8], at: usize, number: u8)
     }
 }
 
-// The number in the byte at `at`.
+// The number in the byte at `at`. Three functions by these names, since each width has a type of its own.
 #[tactic(auto, unfolding(crate::specs::Number::number_at))]
 pub fn number1(bytes: &[u8], at: usize) -> u8
     ensures { result ≡ number_at bytes.now at 1 }
@@ -183,6 +184,7 @@ fn put_row(buffer: &mut [u8], widths: [u8; FIELDS], numbers: [u32; FIELDS])
     ensures { buffer.new ≡ sets buffer.old 0 (written (map bytes_in widths) numbers) }
 {
     let mut to = 0;
+    // By index: with `zip` the proof, which goes place by place, did not close.
     for (i, width) in widths.iter().enumerate() {
         to += put(&mut buffer[to..], *width, numbers[i]);
     }

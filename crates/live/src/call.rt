@@ -6,7 +6,7 @@ use crate::word_at;
 use refusal::Refusal;
 use register::Taken;
 
-// The call. Beside `Register::call`: the account is read from the image and stored there, and no register is lent. Of the account's places as many are stored as it used or uses: behind them the words are 0 before and after.
+// The call. Beside `Register::call`: the account is read from the image and stored there, and no register is lent. Of the account's places those are stored that it used or uses: behind them the words are 0 before and after.
 pub fn call_image(image: &mut [u32], bytes: &[u8], buffer: &mut [u8]) -> Result<Taken, Refusal>
     ensures reply { result ≡ (live_of image.old bytes.now buffer.old).reply }
     ensures image { image.new ≡ (live_of image.old bytes.now buffer.old).image }

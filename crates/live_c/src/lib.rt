@@ -1,4 +1,4 @@
-// The live calls for callers in C or Rust: the static library that include/nacozteya.h tells of.
+// The live calls for callers in C or Rust: the static library that include/nacozteya.h tells of. The C interface: clauses as those of the functions that are called.
 #![tactic(auto)]
 
 ghost use Rattle.std.specs.Prelude.{◌≡◌};

@@ -67,7 +67,7 @@ pub fn write_message(message: Message, buffer: &mut [u8]) -> Result<usize, Refus
     Ok(shape.whole)
 }
 
-// The whole length of a message of a kind, and 0 for a kind that is none of 1 to 6.
+// The whole length of a message of a kind, and 0 for a kind that is none of 1 to 6, as `whole_of` has it: a run asks it of any byte.
 pub fn whole_length(kind: u8) -> usize
     ensures { result ≡ whole_of (row_of_kind messages kind) }
 {
@@ -103,7 +103,7 @@ impl Message {
         }
     }
 
-    // The amount of the message, 0 where it has none.
+    // The amount of the message, 0 where it has none, as the row of numbers has it.
     fn amount(self) -> u32
         ensures { result ≡ amount_in self }
     {

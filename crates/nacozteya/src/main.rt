@@ -4,17 +4,18 @@
 ghost use Rattle.std.specs.Prelude.{◌≤◌, length};
 
 fn main() {
-    let mut input = [0u8; text::LONGEST_INPUT + 1];
-    let count = io::read_full(0, &mut input);
+    let mut buffer = [0u8; text::LONGEST_INPUT + 1];
+    let count = io::read_full(0, &mut buffer);
+    let input = &buffer[..count];
     let mut out = [0u8; text::LONGEST_TEXT];
-    let mut served = text::begin(&input[..count], &mut out);
+    let mut served = text::begin(input, &mut out);
     print(&out, served.written);
     // A `while`: how far it goes on, each message tells.
-    while served.from < count {
-        served = text::serve(served, &input[..count], &mut out);
+    while served.from < input.len() {
+        served = text::serve(served, input, &mut out);
         print(&out, served.written);
     }
-    let written = text::finish(served, &input[..count], &mut out);
+    let written = text::finish(served, input, &mut out);
     print(&out, written);
 }
 

@@ -38,7 +38,7 @@ pub(crate) fn line(payload: &[u8], page: &mut Page) {
     }
 }
 
-// Puts what an entry of that kind has of event, amount, outcomes, balance and reason, each behind a separator.
+// Puts what an entry of that kind has of event, amount, outcomes, balance and reason, each behind a separator. The kind is a number, as `Found` has it.
 pub(crate) fn put_told(told: Told, kind: u8, page: &mut Page, separator: char) {
     match told {
         Told::Voted(event, weighing) => {

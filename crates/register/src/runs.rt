@@ -7,7 +7,7 @@ ghost use Rattle.register.specs.Helpers.{Countable};
 use crate::{Register, Taken};
 use refusal::Refusal;
 
-// What a run comes to: messages met, messages refused, bytes of messages passed, bytes of entries written.
+// What a run comes to: messages met, messages refused, bytes of messages passed, bytes of entries written. Each is a count.
 #[derive(Clone, Copy, Default, PartialEq, Eq, Drop)]
 pub struct Ran {
     pub met: usize,

@@ -1,4 +1,4 @@
-// A run of messages for callers in C or Rust: the static library that include/nacozteya.h tells of.
+// A run of messages for callers in C or Rust: the static library that include/nacozteya.h tells of. The C interface: clauses as those of the function that is called.
 #![tactic(auto)]
 
 ghost use Rattle.std.specs.Prelude.{◌≡◌};

@@ -5,7 +5,7 @@ ghost use Rattle.text.specs.Text.{Put};
 ghost use Rattle.text.specs.Program.{begin_text, begin_of, start_after, counted, Serves, finish_text};
 
 use crate::line::Line;
-use crate::{line, turns};
+use crate::turns;
 use filing::Entries;
 use register::{Passed, Register};
 

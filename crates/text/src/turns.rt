@@ -7,7 +7,6 @@ ghost use Rattle.text.specs.Output.{refused_line, turn_at};
 ghost use Rattle.text.specs.Program.{longest_text};
 ghost use Rattle.text.specs.Turned.{Sends};
 
-use crate::line;
 use crate::line::Line;
 use filing::Entries;
 use refusal::Refusal;
