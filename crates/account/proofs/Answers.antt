@@ -1,19 +1,14 @@
 -- What is said of an answer tells the answers apart: by cases.
 -- Assumes nothing.
 use Prim.Native.Nat.{ℕ}
-use mathlib.Core.Path.{◌≡◌, sym, ap, ap₂, ◌∙◌}
+use mathlib.Core.Path.{◌≡◌, ap, ap₂}
 use native.Mathlib.Omega.{arith}
 use Rattle.std.specs.Prelude.{Ok, Err}
 use Rattle.events.specs.declared.State.{State}
-use Rattle.refusal.specs.declared.Refusal.{Refusal}
-use Rattle.refusal.specs.Numbers.{number_of, numbered}
-use Rattle.refusal.proofs.Literal.{literal-holds}
+use Rattle.refusal.specs.Numbers.{number_of}
+use Rattle.refusal.proofs.Literal.{same-refusal}
 use Rattle.account.specs.Steps.{Shown}
 use Rattle.account.specs.Answers.{AnswersApart, OutlooksApart}
-
--- a refusal is told by its number
-same-refusal : (r s : Refusal) → number_of r ≡ number_of s → r ≡ s
-same-refusal r s e = sym (literal-holds.told r) ∙ ap numbered e ∙ literal-holds.told s
 
 pub answers-apart : AnswersApart
 answers-apart (Err r) (Err s) h k = ap Err (same-refusal r s (let z : number_of r ≡ number_of s = cc in z))

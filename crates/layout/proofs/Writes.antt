@@ -9,8 +9,8 @@ use lib.ListN.{length, drop, length-append, length-drop}
 use lib.Seq.{drop_at}
 use Rattle.std.specs.Prelude.{Result, Ok, Err}
 use Rattle.refusal.specs.declared.Refusal.{Refusal}
-use Rattle.refusal.specs.Numbers.{number_of, numbered}
-use Rattle.refusal.proofs.Literal.{literal-holds}
+use Rattle.refusal.specs.Numbers.{number_of}
+use Rattle.refusal.proofs.Literal.{same-refusal}
 use Rattle.layout.specs.Writes.{SaidOfWriting, said_of_writing, Wrote, wrote_over, refused_with, Stays}
 
 -- what is said of an answer tells the answers apart
@@ -21,7 +21,7 @@ answers-apart (Err n) (Ok k) e = let f = ap (λ (g : SaidOfWriting). g.refusal) 
 answers-apart (Err n) (Err k) e =
     let f = ap (λ (g : SaidOfWriting). g.refusal) e in
     let same : number_of n ≡ number_of k = cc in
-    cc (literal-holds.told n, literal-holds.told k, ap numbered same)
+    ap Err (same-refusal n k same)
 
 pub refused-stays : (r : Refusal) (buffer : List ℕ) → Stays buffer (refused_with r buffer)
 refused-stays r buffer = record { size = refl; rest = refl }

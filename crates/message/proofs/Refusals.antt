@@ -12,7 +12,7 @@ use lib.ListN.{length, get_or}
 use Rattle.std.specs.Prelude.{Result, Ok, Err}
 use Rattle.refusal.specs.declared.Refusal.{Refusal}
 use Rattle.refusal.specs.declared.Refusal.TheVariants.{UnknownAccount, NoRoom, Torn}
-use Rattle.refusal.specs.Numbers.{number_of, numbered}
+use Rattle.refusal.specs.Numbers.{number_of}
 use Rattle.refusal.proofs.Literal as Told
 use Rattle.rule.specs.Tests.{test, first_of}
 use Rattle.layout.specs.Number.{number_at}
@@ -120,4 +120,4 @@ readings-apart (Err r) (Ok s) e = let f = ap (λ (g : SaidOfReading). g.refusal)
 readings-apart (Err r) (Err s) e =
     let f = ap (λ (g : SaidOfReading). g.refusal) e in
     let same : number_of r ≡ number_of s = cc in
-    cc (Told.literal-holds.told r, Told.literal-holds.told s, ap numbered same)
+    ap Err (Told.same-refusal r s same)

@@ -1,6 +1,6 @@
 -- By computing, refusal by refusal.
 -- Assumes nothing.
-use Rattle.std.proofs.Common.{◌≡◌, ℕ, ◌<◌, ◌≤◌, arith, refl}
+use Rattle.std.proofs.Common.{◌≡◌, ℕ, ◌<◌, ◌≤◌, arith, refl, sym, ap, ◌∙◌}
 use Rattle.std.proofs.lemmas.Bool.Decides.{nat_tests}
 use Rattle.refusal.specs.declared.Refusal.{Refusal}
 use Rattle.refusal.specs.declared.Refusal.TheVariants.{Torn, UnknownKind, UnknownAccount, NoRoom, NotInOrder, KnownTransaction, AllHeld, UnknownTransaction, HeldTransaction, CommittedAlready, CommittedBefore, NoSuchOutcome}
@@ -49,3 +49,7 @@ literal-holds =
       numbers = numbers;
       none_else = none_else;
     }
+
+-- a number tells refusals apart
+pub same-refusal : (r s : Refusal) → number_of r ≡ number_of s → r ≡ s
+same-refusal r s e = sym (told r) ∙ ap numbered e ∙ told s

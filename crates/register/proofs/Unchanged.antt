@@ -11,7 +11,7 @@ use lib.ListN.{length, drop, length-append, length-drop, length-set}
 use lib.Seq.{drop-append_seam, get_or-set_other}
 use borrow.Author.Tests.{leb-true}
 use Rattle.refusal.proofs.Literal.{literal-holds}
-use Rattle.register.proofs.Apart.{same-refusal}
+use Rattle.refusal.proofs.Literal.{same-refusal}
 use Rattle.refusal.specs.Numbers.{number_of, numbered}
 use Rattle.std.specs.Prelude.{Ok, Err}
 use Rattle.rule.specs.Lists.{every}
