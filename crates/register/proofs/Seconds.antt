@@ -9,7 +9,7 @@ use lib.Dec.{ltb}
 use lib.ListN.{length, take, drop}
 use lib.Seq.{take_at, drop_at}
 use Rattle.refusal.specs.Numbers.{number_of}
-use Rattle.register.proofs.Apart as apart
+use Rattle.refusal.proofs.Literal as told
 use Rattle.account.specs.Steps as steps
 use Rattle.account.specs.Steps.{refusal_in}
 use Rattle.refusal.specs.declared.Refusal.TheVariants.{NoRoom}
@@ -74,7 +74,7 @@ module _ (R : Rule State Event ℕ) where
       where
         by : (answer answer' : Result Entries Refusal) → refusal_in answer ≡ refusal_in answer' → map forgotten (list_of (steps.entries_in answer)) ≡ map forgotten (list_of (steps.entries_in answer'))
             → SameResult (wrote_as r buffer i consumed answer sent.register) (wrote_as r' buffer i consumed answer' sent'.register)
-        by (Err n) (Err n') e z = let y : number_of n ≡ number_of n' = cc in rw (apart.same-refusal n n' y) (refused-same n')
+        by (Err n) (Err n') e z = let y : number_of n ≡ number_of n' = cc in rw (told.same-refusal n n' y) (refused-same n')
         by (Err n) (Ok es') e z = cc
         by (Ok es) (Err n') e z = cc
         by (Ok es) (Ok es') e z = laid_same consumed sent.register sent'.register i es es' h.registers (entries-same i (list_of es) (list_of es') z)
