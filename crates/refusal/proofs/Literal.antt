@@ -47,6 +47,7 @@ literal-holds =
       of_questions = refl;
       told = told;
       numbers = numbers;
+      by_itself = λ n. refl;
       none_else = none_else;
     }
 

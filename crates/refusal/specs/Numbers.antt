@@ -19,6 +19,10 @@ number_of CommittedAlready = 10
 number_of CommittedBefore = 11
 number_of NoSuchOutcome = 12
 
+-- a number by itself is told as it is, whichever it is
+abbrev pub itself : ℕ → ℕ
+itself n = n
+
 -- the refusal of a number; of one that none has, as of 12
 abbrev pub numbered : ℕ → Refusal
 numbered n =

@@ -19,7 +19,7 @@ use Rattle.filing.specs.declared.Filed.{Filed}
 use Rattle.account.specs.declared.Account.{Account}
 use Rattle.account.specs.Places.{RuleAccount, lists_of}
 use Rattle.account.specs.InOrder.{in_order_by}
-use Rattle.account.specs.Steps.{stepped_by, step_by}
+use Rattle.account.specs.Steps.{refusal_in, stepped_by, step_by}
 use Rattle.entry.proofs.CallFits.{listed}
 use Rattle.message.specs.declared.Message.{Message}
 use Rattle.message.specs.Bytes.{heading_of}
@@ -52,12 +52,14 @@ module _ (R : Rule State Event ℕ) where
 
   pub sent-as-the-rule : (r : Register) (m : Message) → (heading_of m).account ≤ 15 → in_order_by R (account_at r (heading_of m).account) ≡ true
       → let called = Rule-Call.call R (lists_of (account_at r (heading_of m).account)) (rule_message m) in
-      sent_by R r m ≡ sent_as_ruled r (heading_of m).account called.account called.answer
+      (sent_by R r m ≡ sent_as_ruled r (heading_of m).account called.account called.answer)
+      × ((n : ℕ) → called.answer ≡ Rule-Call.refused n → refusal_in (sent_by R r m).answer ≡ some n)
   unfolding sent_by step_by
   sent-as-the-rule r m known order =
       let i = (heading_of m).account in
       let called = Rule-Call.call R (lists_of (account_at r i)) (rule_message m) in
-      rw (le-ltb 15 i known, order) (by called.answer)
+      rw (le-ltb 15 i known, order)
+      (by called.answer, λ n e. rw e (ap some (answer-number R (lists_of (account_at r i)) (rule_message m) n e)))
     where
       by : (answer : Rule-Call.Answer Filed Event ℕ)
           → let i = (heading_of m).account in

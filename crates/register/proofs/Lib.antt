@@ -24,6 +24,7 @@ pub mod Turned
 pub mod WholeRuns
 pub mod Alike
 pub mod Writes
+pub mod Accounts
 pub mod RunCalls
 pub mod RunSeconds
 pub mod Longest

@@ -2,17 +2,20 @@
 -- Assumes nothing.
 use Prim.Native.Nat.{ℕ, ◌≤◌}
 use native.Mathlib.Omega.{arith}
-use mathlib.Core.Path.{◌≡◌, refl}
+use mathlib.Core.Path.{◌≡◌, refl, ap}
 use mathlib.Core.List.{List}
+use mathlib.Core.Option.{some}
 use borrow.Author.Tests.{lt-ltb, le-ltb, ne_eqb}
 use lib.ListN.{length}
 use lib.Seq.{get_or_at, set_at}
 use Rattle.std.specs.Prelude.{Ok}
+use Rattle.refusal.specs.Numbers.{number_of, numbered}
 use Rattle.rule.specs.Rule as rule
+use Rattle.rule.specs.Call as Rule-Call
 use Rattle.events.specs.declared.Event.{Event}
 use Rattle.events.specs.declared.State.{State}
 use Rattle.account.specs.declared.Account.{Account}
-use Rattle.account.specs.Places.{account_of}
+use Rattle.account.specs.Places.{lists_of, account_of}
 use Rattle.account.specs.Steps.{step_by}
 use Rattle.layout.specs.Fields.{row_of_kind}
 use Rattle.layout.specs.Number.{number_at}
@@ -21,17 +24,22 @@ use Rattle.message.specs.Bytes.{messages, heading_of}
 use Rattle.message.specs.Answers.{read_of}
 use Rattle.entry.proofs.CallFits.{listed}
 use Rattle.register.specs.declared.Register.{Register}
-use Rattle.register.specs.Register.{nowhere, fresh_by, sent_by, asked_by}
+use Rattle.register.specs.Register.{nowhere, account_at, rule_message, fresh_by, sent_by, asked_by}
 use Rattle.register.specs.Call.{after_message, called_by}
 use Rattle.register.specs.Sequence.{Input, Exchange, entries_from}
 use Rattle.register.specs.Plain.{CallPlain, SendPlain, AskedPlain, AccountsPlain, NumbersPlain, EntriesPlain, StringsPlain, PlainHolds}
 use Rattle.register.proofs.ReadAs.{read_as, account-read}
 use Rattle.register.proofs.ReadBack.{value-back}
+use Rattle.register.proofs.Sending.{answer-number}
 
 module _ (R : rule.Rule State Event ℕ) where
   -- the account that a message which was read names is one of sixteen
   known : (bytes : List ℕ) (m : Message) (consumed : ℕ) → read_of bytes ≡ Ok (m, consumed) → (heading_of m).account ≤ 15
   known bytes m consumed read = omega (arith, account-read bytes m consumed read, (read_as bytes m consumed read).account)
+
+  -- the number of the rule's refusal is one of the list
+  own : (r : Register) (m : Message) (n : ℕ) → (Rule-Call.call R (lists_of (account_at r (heading_of m).account)) (rule_message m)).answer ≡ Rule-Call.refused n → number_of (numbered n) ≡ n
+  own r m = answer-number R (lists_of (account_at r (heading_of m).account)) (rule_message m)
 
   call-plain : (r : Register) (bytes buffer : List ℕ) → CallPlain R r bytes buffer
   unfolding called_by after_message sent_by step_by
@@ -42,7 +50,8 @@ module _ (R : rule.Rule State Event ℕ) where
         out_of_order = λ m consumed read room order. rw (read, le-ltb (length buffer) 323 room, le-ltb 15 (heading_of m).account (known bytes m consumed read), order) refl;
         refused =
             λ m consumed n read room order answer.
-            rw (read, le-ltb (length buffer) 323 room, le-ltb 15 (heading_of m).account (known bytes m consumed read), order, answer) refl;
+            rw (read, le-ltb (length buffer) 323 room, le-ltb 15 (heading_of m).account (known bytes m consumed read), order, answer)
+            (refl, ap some (own r m n answer));
         taken =
             λ m consumed xs read room order answer.
             rw (read, le-ltb (length buffer) 323 room, le-ltb 15 (heading_of m).account (known bytes m consumed read), order, answer, listed xs) refl;
@@ -54,7 +63,7 @@ module _ (R : rule.Rule State Event ℕ) where
       record {
         elsewhere = λ far. rw (lt-ltb 15 (heading_of m).account far) refl;
         out_of_order = λ near order. rw (le-ltb 15 (heading_of m).account near, order) refl;
-        refused = λ n near order answer. rw (le-ltb 15 (heading_of m).account near, order, answer) refl;
+        refused = λ n near order answer. rw (le-ltb 15 (heading_of m).account near, order, answer) (refl, ap some (own r m n answer));
         taken = λ xs near order answer. rw (le-ltb 15 (heading_of m).account near, order, answer) refl;
       }
 

@@ -1,15 +1,17 @@
 -- What the code of a run has at hand is a turn: the register gets the parts of the two slices that are left, and what its call gives is put back. Then the counts fit, and the run
--- stops at the message, or goes on behind it.
+-- stops at the message, or goes on behind it; behind one that was read and had room it goes on.
 -- Assumes nothing.
 use Prim.Native.Nat.{ℕ, ◌+◌, ◌-◌, ◌<◌, ◌≤◌, ◌^◌}
 use mathlib.Core.Path.{◌≡◌, refl, ◌∙◌}
-use mathlib.Core.Bool.{true, false}
+use mathlib.Core.Bool.{Bool, true, false}
 use mathlib.Core.List.{List, append-nil}
+use lib.Dec.{ltb}
 use lib.ListN.{length, take, drop}
 use lib.Seq.{drop-length}
 use borrow.Author.Rules.{part_to_end}
-use borrow.Author.Tests.{le-ltb}
-use Rattle.std.specs.Prelude.{Ok}
+use borrow.Author.Tests.{le-ltb, ltb-false}
+use Rattle.std.specs.Prelude.{Result, Ok, Err}
+use Rattle.refusal.specs.declared.Refusal.{Refusal}
 use borrow.Rule.Slice.PartMut.{put_mid, Post-is}
 use Rattle.rule.specs.Rule.{Rule}
 use Rattle.events.specs.declared.Event.{Event}
@@ -46,11 +48,12 @@ module _ (R : Rule State Event ℕ) (k : Suits R) (bytes buffer : List ℕ) (r :
     pub less : passed.stops ≡ false → length bytes - (ran.consumed + passed.consumed) < length bytes - ran.consumed
     pub again : passed.stops ≡ false → Underway R k bytes buffer next (added ran (one passed)) left
 
-  pub goes : Underway R k bytes buffer r ran entries → ran.consumed < length bytes → (kind whole : ℕ) → kind ≡ number_at rest 0 1 → whole ≡ whole_of (row_of_kind messages kind)
+  -- by what the reply says
+  by-reply : Underway R k bytes buffer r ran entries → ran.consumed < length bytes → (kind whole : ℕ) → kind ≡ number_at rest 0 1 → whole ≡ whole_of (row_of_kind messages kind)
       → (reply : Reply) (next : Register) (last : List ℕ) (passed : Passed)
       → reply ≡ (called_by R r rest free).reply → next ≡ (called_by R r rest free).register → last ≡ (called_by R r rest free).buffer → passed ≡ passed_of reply whole
       → Goes next passed (put_mid ran.written (length entries - ran.written) entries last)
-  goes u more kind whole q w reply next last passed a f b p =
+  by-reply u more kind whole q w reply next last passed a f b p =
       let left = put_mid ran.written (length entries - ran.written) entries last in
       let turn : Turn R k bytes r ran entries next passed left =
       record {
@@ -88,6 +91,31 @@ module _ (R : Rule State Event ℕ) (k : Suits R) (bytes buffer : List ℕ) (r :
       → reply ≡ (called_by R r rest free).reply → next ≡ (called_by R r rest free).register → last ≡ (called_by R r rest free).buffer → passed ≡ passed_of reply whole
       → GoesOn next passed (put_mid ran.written (length entries - ran.written) entries last)
   message-goes m consumed reads room u more kind whole q w reply next last passed a f b p =
-      let g = goes u more kind whole q w reply next last passed a f b p in
+      let g = by-reply u more kind whole q w reply next last passed a f b p in
       let on = turn_on m consumed whole reply passed reads room a p in
       record { counts = g.counts; less = g.less on; again = g.again on }
+
+  -- each turn: by what was read and whether it had room
+  pub goes : Underway R k bytes buffer r ran entries → ran.consumed < length bytes → (kind whole : ℕ) → kind ≡ number_at rest 0 1 → whole ≡ whole_of (row_of_kind messages kind)
+      → (reply : Reply) (next : Register) (last : List ℕ) (passed : Passed)
+      → reply ≡ (called_by R r rest free).reply → next ≡ (called_by R r rest free).register → last ≡ (called_by R r rest free).buffer → passed ≡ passed_of reply whole
+      → Goes next passed (put_mid ran.written (length entries - ran.written) entries last)
+  goes u more kind whole q w reply next last passed a f b p = by-reading (read_of rest) refl
+    where
+      left : List ℕ
+      left = put_mid ran.written (length entries - ran.written) entries last
+
+      otherwise : Goes next passed left
+      otherwise = by-reply u more kind whole q w reply next last passed a f b p
+
+      by-room : (m : Message) (consumed : ℕ) → read_of rest ≡ Ok (m, consumed) → (b : Bool) → ltb (length free) longest_call ≡ b → Goes next passed left
+      by-room m consumed e true l = otherwise
+      by-room m consumed e false l =
+          let room = ltb-false (length free) longest_call l in
+          let g = message-goes m consumed e room u more kind whole q w reply next last passed a f b p in
+          let on = turn_on m consumed whole reply passed e room a p in
+          record { counts = g.counts; stops = λ s. cc; less = λ s. g.less; again = λ s. g.again }
+
+      by-reading : (x : Result (Message × ℕ) Refusal) → read_of rest ≡ x → Goes next passed left
+      by-reading (Err refusal) e = otherwise
+      by-reading (Ok (m, consumed)) e = by-room m consumed e (ltb (length free) longest_call) refl

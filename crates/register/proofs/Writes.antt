@@ -39,6 +39,11 @@ use Rattle.register.proofs.Sending.{taking, Sending, refused, taken, sending, ta
 step-keeps : (R : rule.Rule State Event ℕ) (a : Account) (m : rule.Message Filed Event) (x : Refusal) → (step_by R a m).answer ≡ Err x → (step_by R a m).account ≡ a
 step-keeps R a m x e = ap (λ (s : Stepped). s.account) (refusal-same R a m (number_of x) (ap refusal_in e))
 
+-- what is answered is the account's answer
+pub same_answer : (r : Register) (i : ℕ) (answer : Result Entries Refusal) (next : Account) → (sent_as r i answer next).answer ≡ answer
+same_answer r i (Ok entries) next = refl
+same_answer r i (Err x) next = refl
+
 module _ (R : rule.Rule State Event ℕ) (r : Register) (m : Message) where
   -- sent to an account that there is not
   pub sent-nowhere : last_account < (heading_of m).account → sent_by R r m ≡ not_sent r UnknownAccount
@@ -59,10 +64,6 @@ module _ (R : rule.Rule State Event ℕ) (r : Register) (m : Message) where
       go : (answer : Result Entries Refusal) → ((x : Refusal) → answer ≡ Err x → next ≡ account_at r i) → with_account r i next ≡ (sent_as r i answer next).register
       go (Ok entries) h = refl
       go (Err x) h = rw (h x refl, set-get_or r.accounts i nowhere)
-
-  pub same_answer : (i : ℕ) (answer : Result Entries Refusal) (next : Account) → (sent_as r i answer next).answer ≡ answer
-  same_answer i (Ok entries) next = refl
-  same_answer i (Err x) next = refl
 
   -- a message that is refused keeps the register
   pub sent-keeps : (x : Refusal) → (sent_by R r m).answer ≡ Err x → (sent_by R r m).register ≡ r

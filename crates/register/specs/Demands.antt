@@ -20,7 +20,7 @@ use Rattle.filing.specs.Slots.{RuleSlot}
 use Rattle.filing.specs.Entries.{entry_of, entries_of}
 use Rattle.account.specs.declared.Account.{Account}
 use Rattle.account.specs.Places.{RuleAccount, lists_of, account_of}
-use Rattle.account.specs.Steps.{shown_by}
+use Rattle.account.specs.Steps.{refusal_in, shown_by}
 use Rattle.account.specs.First.{panel, in_order_of, TableHolds, OutcomesOfTheTable}
 use Rattle.message.specs.declared.Message.{Message}
 use Rattle.message.specs.Bytes.{heading_of}
@@ -102,12 +102,13 @@ AsTheRule =
     → in_order_of (standing_at r (account_in bytes)) ≡ true
     → Ruled r buffer (account_in bytes) consumed (call panel (lists_of (standing_at r (account_in bytes))) (rule_message m)) (call_of r bytes buffer)
 
--- and of a message as a value
+-- and of a message as a value; a refusal has the rule's own number
 abbrev pub SentAsTheRule : Type 0
 SentAsTheRule =
     (r : Register) (m : Message) → (heading_of m).account ≤ 15 → in_order_of (standing_at r (heading_of m).account) ≡ true
     → let called = call panel (lists_of (standing_at r (heading_of m).account)) (rule_message m) in
-    sent_of r m ≡ sent_as_ruled r (heading_of m).account called.account called.answer
+    (sent_of r m ≡ sent_as_ruled r (heading_of m).account called.account called.answer)
+    × ((n : ℕ) → called.answer ≡ refused n → refusal_in (sent_of r m).answer ≡ some n)
 
 pub record Demand2 : Type 0 where
   pub decided : AsTheRule

@@ -4,10 +4,10 @@ use Rattle.register.specs.declared.Taken.{Taken}
 use Rattle.std.specs.Prelude.{ℕ, ◌+◌, ◌≤◌, ◌≡◌, true, false, Ok, Err, List, [], ◌∷◌, ◌++◌, take}
 use Rattle.std.proofs.Math.Option.{none, some}
 use Rattle.refusal.specs.declared.Refusal.{Refusal}
-use Rattle.refusal.specs.Numbers.{number_of, numbered}
+use Rattle.refusal.specs.Numbers.{number_of, itself, numbered}
 use Rattle.register.specs.Call.{refusal_of, consumed_of, written_of}
 use Rattle.register.specs.Sequence.{Exchange}
-use Rattle.register.specs.Run.{reply_number, passed_of}
+use Rattle.register.specs.Run.{number_with, reply_number, passed_with, passed_of}
 use Rattle.register.specs.First.{run_of, export_of}
 use Rattle.register.specs.RunCalls.{refused_among, entries_among}
 
@@ -18,11 +18,19 @@ pub record AnswerForm : Type 0 where
 -- what a message comes to: taken it is passed with its entries; refused with 1 or 2 it is the last, and with any other number, whether a run can meet it or not, it is passed by its length (11.5)
 pub record PassedForm (whole : ℕ) : Type 0 where
   pub taken : (consumed written : ℕ) → passed_of (Ok (record { consumed = consumed; written = written })) whole ≡ record { refused = 0; consumed = consumed; written = written; stops = false }
-  pub first : passed_of (Err (numbered 1)) whole ≡ record { refused = 1; consumed = 0; written = 0; stops = true }
-  pub second : passed_of (Err (numbered 2)) whole ≡ record { refused = 1; consumed = 0; written = 0; stops = true }
-  pub others : (refusal : Refusal) → 3 ≤ number_of refusal → passed_of (Err refusal) whole ≡ record { refused = 1; consumed = whole; written = 0; stops = false }
-  pub number : (refusal : Refusal) → reply_number (Err refusal) ≡ number_of refusal
+  pub first : passed_with itself (Err 1) whole ≡ record { refused = 1; consumed = 0; written = 0; stops = true }
+  pub second : passed_with itself (Err 2) whole ≡ record { refused = 1; consumed = 0; written = 0; stops = true }
+  pub others : (n : ℕ) → 3 ≤ n → passed_with itself (Err n) whole ≡ record { refused = 1; consumed = whole; written = 0; stops = false }
+  pub number : (n : ℕ) → number_with itself (Err n) ≡ n
   pub no_number : (consumed written : ℕ) → reply_number (Ok (record { consumed = consumed; written = written })) ≡ 0
+  -- the same where a number stands in the place of a refusal
+  pub taken' : (consumed written : ℕ) → passed_with itself (Ok (record { consumed = consumed; written = written })) whole ≡ record { refused = 0; consumed = consumed; written = written; stops = false }
+  pub no_number' : (consumed written : ℕ) → number_with itself (Ok (record { consumed = consumed; written = written })) ≡ 0
+  -- and of the twelve refusals, each by its own number
+  pub first_refusal : passed_of (Err (numbered 1)) whole ≡ record { refused = 1; consumed = 0; written = 0; stops = true }
+  pub second_refusal : passed_of (Err (numbered 2)) whole ≡ record { refused = 1; consumed = 0; written = 0; stops = true }
+  pub other_refusals : (refusal : Refusal) → 3 ≤ number_of refusal → passed_of (Err refusal) whole ≡ record { refused = 1; consumed = whole; written = 0; stops = false }
+  pub number_of_refusal : (refusal : Refusal) → reply_number (Err refusal) ≡ number_of refusal
 
 -- the calls of a run: each refusal, whatever its number, counts as one and brings no entry; what is taken brings its entries before those of the later calls
 pub record SumsForm (message buffer : List ℕ) (seen : List Exchange) : Type 0 where

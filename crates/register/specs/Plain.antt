@@ -22,7 +22,7 @@ use Rattle.filing.specs.Entries.{RuleEntry, entry_of, entries_of}
 use Rattle.account.specs.declared.Account.{Account}
 use Rattle.account.specs.Places.{lists_of, account_of}
 use Rattle.account.specs.InOrder.{in_order_by}
-use Rattle.account.specs.Steps.{outlook_by}
+use Rattle.account.specs.Steps.{refusal_in, outlook_by}
 use Rattle.message.specs.declared.Message.{Message}
 use Rattle.message.specs.Bytes.{heading_of}
 use Rattle.message.specs.Answers.{read_of}
@@ -31,14 +31,14 @@ use Rattle.entry.specs.Answers as entry
 use Rattle.entry.specs.Bytes.{bytes_of_entries}
 use Rattle.register.specs.declared.Register.{Register}
 use Rattle.register.specs.Register.{nowhere, account_at, with_account, rule_message, sent_by, asked_by}
-use Rattle.register.specs.Call.{called_by}
+use Rattle.register.specs.Call.{refusal_of, called_by}
 use Rattle.register.specs.Refusals.{transaction_in, account_in, length_by, standing_at, progress_in, held_in, is_in_progress, is_held, is_committed, undecided_in, answered_as}
 use Rattle.register.specs.Sequence.{Input, Exchange, ByteStrings, rule_entry, entries_from, entries_in, answer_in, written_in, OnlyEntries, EachOnlyEntries}
 use Rattle.register.specs.Run.{length_at, numbers_of}
 use Rattle.register.specs.First.{fresh_register}
 
 module _ (R : rule.Rule State Event ℕ) where
-  -- a call: the reader's refusal, whatever register and buffer are; 4 with fewer than 323 bytes, whatever the register is; 5; and then the rule's answer
+  -- a call: the reader's refusal, whatever register and buffer are; 4 with fewer than 323 bytes, whatever the register is; 5; and then the rule's answer, whose number it tells
   pub record CallPlain (r : Register) (bytes buffer : List ℕ) : Type 0 where
     pub unread : (refusal : Refusal) → read_of bytes ≡ Err refusal → called_by R r bytes buffer ≡ record { reply = Err refusal; register = r; buffer = buffer }
     pub roomless : (m : Message) (consumed : ℕ) → read_of bytes ≡ Ok (m, consumed) → length buffer < 323
@@ -49,7 +49,7 @@ module _ (R : rule.Rule State Event ℕ) where
     pub refused : (m : Message) (consumed n : ℕ) → read_of bytes ≡ Ok (m, consumed) → 323 ≤ length buffer
         → in_order_by R (get_or r.accounts (heading_of m).account nowhere) ≡ true
         → (Rule-Call.call R (lists_of (get_or r.accounts (heading_of m).account nowhere)) (rule_message m)).answer ≡ Rule-Call.refused n
-        → called_by R r bytes buffer ≡ record { reply = Err (numbered n); register = r; buffer = buffer }
+        → (called_by R r bytes buffer ≡ record { reply = Err (numbered n); register = r; buffer = buffer }) × (refusal_of (called_by R r bytes buffer).reply ≡ some n)
     pub taken : (m : Message) (consumed : ℕ) (xs : List RuleEntry) → read_of bytes ≡ Ok (m, consumed) → 323 ≤ length buffer
         → let i = (heading_of m).account in
         let called = Rule-Call.call R (lists_of (get_or r.accounts i nowhere)) (rule_message m) in
@@ -62,14 +62,14 @@ module _ (R : rule.Rule State Event ℕ) where
           buffer = entries ++ drop (length entries) buffer;
         }
 
-  -- a message sent: 3, 5, and then the rule's answer
+  -- a message sent: 3, 5, and then the rule's answer, whose number it tells
   pub record SendPlain (r : Register) (m : Message) : Type 0 where
     pub elsewhere : 15 < (heading_of m).account → sent_by R r m ≡ record { register = r; answer = Err (numbered 3) }
     pub out_of_order : (heading_of m).account ≤ 15 → in_order_by R (get_or r.accounts (heading_of m).account nowhere) ≡ false
         → sent_by R r m ≡ record { register = r; answer = Err (numbered 5) }
     pub refused : (n : ℕ) → (heading_of m).account ≤ 15 → in_order_by R (get_or r.accounts (heading_of m).account nowhere) ≡ true
         → (Rule-Call.call R (lists_of (get_or r.accounts (heading_of m).account nowhere)) (rule_message m)).answer ≡ Rule-Call.refused n
-        → sent_by R r m ≡ record { register = r; answer = Err (numbered n) }
+        → (sent_by R r m ≡ record { register = r; answer = Err (numbered n) }) × (refusal_in (sent_by R r m).answer ≡ some n)
     pub taken : (xs : List RuleEntry) → (heading_of m).account ≤ 15 → in_order_by R (get_or r.accounts (heading_of m).account nowhere) ≡ true
         → let called = Rule-Call.call R (lists_of (get_or r.accounts (heading_of m).account nowhere)) (rule_message m) in
         called.answer ≡ Rule-Call.taken xs

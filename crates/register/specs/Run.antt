@@ -1,6 +1,6 @@
 -- A run of messages through a fresh register (docs/REGISTER.md, 11.5): what is met and refused, how far the messages and the entries go, and the whole entry buffer.
 -- Assumes nothing.
-use Rattle.std.specs.Prelude.{ℕ, zero, suc, ◌+◌, ◌≤◌, ◌≡◌, true, false, cond, Ok, Err, List, [], ◌∷◌, ◌++◌, eqb, leb, length, take, drop}
+use Rattle.std.specs.Prelude.{ℕ, zero, suc, ◌+◌, ◌≤◌, ◌≡◌, true, false, cond, Result, Ok, Err, List, [], ◌∷◌, ◌++◌, eqb, leb, length, take, drop}
 use Rattle.std.proofs.lemmas.List.Edits.{sets}
 use Rattle.refusal.specs.Numbers.{number_of}
 use Rattle.rule.specs.Rule.{Rule}
@@ -10,6 +10,7 @@ use Rattle.layout.specs.Number.{number_at}
 use Rattle.layout.specs.Fields.{row_of_kind, whole_of}
 use Rattle.message.specs.Bytes.{messages}
 use Rattle.register.specs.declared.Register.{Register}
+use Rattle.register.specs.declared.Taken.{Taken}
 use Rattle.register.specs.declared.runs.Ran.{Ran}
 use Rattle.register.specs.declared.runs.Passed.{Passed}
 use Rattle.register.specs.Register.{fresh_by}
@@ -31,16 +32,26 @@ ended entries = record { counts = nothing; entries = entries }
 abbrev pub length_at : (bytes : List ℕ) → ℕ
 length_at bytes = whole_of (row_of_kind messages (number_at bytes 0 1))
 
--- the number of a refusal; 0 says that there is none
-abbrev pub reply_number : Reply → ℕ
-reply_number (Err refusal) = number_of refusal
-reply_number (Ok taken) = 0
+-- the number of a refusal, by what it is told as; 0 says that there is none
+abbrev pub number_with : {N : Type 0} → (number_is : N → ℕ) → Result Taken N → ℕ
+number_with number_is (Err refusal) = number_is refusal
+number_with number_is (Ok taken) = 0
 
--- what a message comes to, by its reply and its whole length: the run stops at refusals 1 and 2, and passes over a message that got another
+abbrev pub reply_number : Reply → ℕ
+reply_number reply = number_with number_of reply
+
+-- what a refused message comes to, by its number, whichever it is, and its whole length: the run stops at refusals 1 and 2, and passes over a message that got another
+abbrev pub passed_over : (number whole : ℕ) → Passed
+passed_over number whole =
+    cond (leb number 2) (record { refused = 1; consumed = 0; written = 0; stops = true }) (record { refused = 1; consumed = whole; written = 0; stops = false })
+
+-- what a message comes to, by its reply
+abbrev pub passed_with : {N : Type 0} → (number_is : N → ℕ) → Result Taken N → (whole : ℕ) → Passed
+passed_with number_is (Ok taken) whole = record { refused = 0; consumed = taken.consumed; written = taken.written; stops = false }
+passed_with number_is (Err refusal) whole = passed_over (number_is refusal) whole
+
 abbrev pub passed_of : Reply → (whole : ℕ) → Passed
-passed_of (Ok taken) whole = record { refused = 0; consumed = taken.consumed; written = taken.written; stops = false }
-passed_of (Err refusal) whole =
-    cond (leb (number_of refusal) 2) (record { refused = 1; consumed = 0; written = 0; stops = true }) (record { refused = 1; consumed = whole; written = 0; stops = false })
+passed_of reply whole = passed_with number_of reply whole
 
 -- the counts of one message: it was met, whether it is refused or not
 abbrev pub one : Passed → Ran

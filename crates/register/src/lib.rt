@@ -83,8 +83,7 @@ impl Register {
     }
 }
 
-// The step of an account that a message asks. It is kept a call: as a part of its callers, the compiler takes the entries of the three steps apart place by place.
-#[inline(never)]
+// The step of an account that a message asks.
 pub fn step(account: &mut Account, message: Message) -> Result<Entries, Refusal>
     ensures answer { result ≡ (step_of account.old (rule_message message)).answer }
     ensures account { account.new ≡ (step_of account.old (rule_message message)).account }

@@ -1,11 +1,11 @@
 // A run of messages: they are sent to a fresh register one after the other, as the program does (docs/REGISTER.md, 11.5).
 ghost use Rattle.std.specs.Prelude.{◌≡◌};
 ghost use Rattle.register.specs.First.{run_of};
-ghost use Rattle.register.specs.Run.{reply_number, passed_of, one, added};
+ghost use Rattle.register.specs.Run.{number_with, passed_over, passed_with, one, added};
 ghost use Rattle.register.specs.Helpers.{Countable};
 
 use crate::{Register, Taken};
-use refusal::Refusal;
+use refusal::Numbered;
 
 // What a run comes to: messages met, messages refused, bytes of messages passed, bytes of entries written. Each is a count.
 #[derive(Clone, Copy, Default, PartialEq, Eq, Drop)]
@@ -59,35 +59,48 @@ impl Ran {
     }
 }
 
-// What a message comes to, by its reply and its whole length: here alone it is said where a run stops, and how it goes on.
-pub fn passed_by(reply: Result<Taken, Refusal>, whole: usize) -> Passed
-    ensures { result ≡ passed_of reply whole }
+// What a message comes to, by its reply and its whole length: here alone it is said where a run stops, and how it goes on. A refusal is told by its number, whichever it is.
+pub fn passed_by<R: Numbered>(reply: Result<Taken, R>, whole: usize) -> Passed
+    ensures { result ≡ passed_with R.number_is reply whole }
 {
-    match reply {
-        Ok(Taken { consumed, written }) => Passed {
-            refused: 0,
-            consumed,
-            written,
-            stops: false,
-        },
-        Err(Refusal::Torn | Refusal::UnknownKind) => Passed {
+    let Taken { consumed, written } = match reply {
+        Ok(taken) => taken,
+        Err(refusal) => return passed_over(refusal.told(), whole),
+    };
+    Passed {
+        refused: 0,
+        consumed,
+        written,
+        stops: false,
+    }
+}
+
+// What a refused message comes to, by its number: the run stops at it, or passes it by its whole length.
+fn passed_over(number: u8, whole: usize) -> Passed
+    ensures { result ≡ passed_over number whole }
+{
+    if number <= 2 {
+        return Passed {
             refused: 1,
             consumed: 0,
             written: 0,
             stops: true,
-        },
-        Err(_) => Passed {
-            refused: 1,
-            consumed: whole,
-            written: 0,
-            stops: false,
-        },
+        };
+    }
+    Passed {
+        refused: 1,
+        consumed: whole,
+        written: 0,
+        stops: false,
     }
 }
 
-// The number of a refusal; 0 where the message was taken, as callers in C have it.
-pub fn refusal_of(reply: Result<Taken, Refusal>) -> u8
-    ensures { result ≡ reply_number reply }
+// The number of a refusal, whichever it is; 0 where the message was taken, as callers in C have it.
+pub fn refusal_of<R: Numbered>(reply: Result<Taken, R>) -> u8
+    ensures { result ≡ number_with R.number_is reply }
 {
-    reply.err().map_or(0, Refusal::number)
+    match reply {
+        Ok(_) => 0,
+        Err(refusal) => refusal.told(),
+    }
 }

@@ -2,7 +2,6 @@
 -- Assumes nothing.
 use Rattle.std.proofs.Common.{◌≡◌, length, sym, ◌∙◌}
 use Rattle.std.proofs.lemmas.Result.{err_from_is_err_and}
-use Rattle.account.specs.First.{panel}
 use Rattle.message.specs.Bytes.{heading_of}
 use Rattle.entry.specs.Bytes.{bytes_of_entries, list_of}
 use Rattle.register.proofs.Suits.{first-suits}
@@ -12,21 +11,21 @@ use Rattle.register.proofs.Register.call.Goals.{After-send}
 
 pub returns-in_err-message : goal.returns-in_err-message
 returns-in_err-message c =
-    let called = reading-refused panel first-suits c.args.self.now c.args.bytes.now c.args.buffer.now c.in_err-message.field-0.0 (sym c.in_err-message.ensures) in
+    let called = reading-refused _ first-suits c.args.self.now c.args.bytes.now c.args.buffer.now c.in_err-message.field-0.0 (sym c.in_err-message.ensures) in
     let p = err_from_is_err_and c.from_residual.result c.from_residual.ensures.1 in
     record { reply = rw (called, p.1, p.2); register = rw called; buffer = rw called }
 
 pub returns-then-buffer-lt-LONGEST_CALL : goal.returns-then-buffer-lt-LONGEST_CALL
 returns-then-buffer-lt-LONGEST_CALL c =
     let m = c.in_ok-message in
-    let called = room-refused panel first-suits c.args.self.now c.args.bytes.now c.args.buffer.now m.message m.consumed (sym m.ensures) c.if-buffer-lt-LONGEST_CALL.true in
+    let called = room-refused _ first-suits c.args.self.now c.args.bytes.now c.args.buffer.now m.message m.consumed (sym m.ensures) c.if-buffer-lt-LONGEST_CALL.true in
     record { reply = rw called; register = rw called; buffer = rw called }
 
 -- a message that was sent, with room for its entries
-sent : (c : After-send) → WithRoom panel first-suits c.args.self.now c.args.bytes.now c.args.buffer.now c.in_ok-message.message c.in_ok-message.consumed (sym c.in_ok-message.ensures)
+sent : (c : After-send) → WithRoom _ first-suits c.args.self.now c.args.bytes.now c.args.buffer.now c.in_ok-message.message c.in_ok-message.consumed (sym c.in_ok-message.ensures)
 sent c =
     let m = c.in_ok-message in
-    with_room panel first-suits c.args.self.now c.args.bytes.now c.args.buffer.now m.message m.consumed (sym m.ensures) c.if-buffer-lt-LONGEST_CALL.false
+    with_room _ first-suits c.args.self.now c.args.bytes.now c.args.buffer.now m.message m.consumed (sym m.ensures) c.if-buffer-lt-LONGEST_CALL.false
 
 pub returns-in_err-entries : goal.returns-in_err-entries
 returns-in_err-entries c =
@@ -35,7 +34,7 @@ returns-in_err-entries c =
     let p = err_from_is_err_and c.from_residual-in_err-entries.result c.from_residual-in_err-entries.ensures.1 in
     record {
       reply = rw (called, p.1, p.2);
-      register = rw called (c.send.ensures.register ∙ sent-keeps panel c.args.self.now c.in_ok-message.message c.in_err-entries.field-0.0 refused);
+      register = rw called (c.send.ensures.register ∙ sent-keeps _ c.args.self.now c.in_ok-message.message c.in_err-entries.field-0.0 refused);
       buffer = rw called;
     }
 
