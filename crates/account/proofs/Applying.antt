@@ -22,8 +22,8 @@ use Rattle.account.specs.declared.Account.{Account}
 use Rattle.account.specs.inside.Taken.{taken_as, listed, SettlesBy, DrainsBy}
 use Rattle.account.proofs.Padded.{progress-row, held-row, state-is, account-is}
 use Rattle.account.proofs.Slices.{used_from, used-length}
-use Rattle.account.proofs.MovedUp.{MovedUp, up-here, up-gone, up_kept, up-all}
-use Rattle.account.proofs.Settled.{application_of, Settling, settled-apply, settled-stays, settled-all}
+use Rattle.account.proofs.MovedUp.{MovedUp, up_none, up-here, up-gone, up_kept, up-all}
+use Rattle.account.proofs.Settled.{application_of, Settling, settling-none, settled-apply, settled-stays, settled-all}
 
 module _ (R : Rule State Event ℕ) where
   pub record Applying (self : Account) (entries₀ : Entries) (next : Account) (entries : Entries) (ended at : ℕ) : Type 0 where
@@ -35,6 +35,19 @@ module _ (R : Rule State Event ℕ) where
     pub progress : MovedUp self.progress next.progress ended at
     pub leads : (s : State) (held : List RuleSlot) (written : List RuleEntry) → self.state ≡ s → entries₀ ≡ entries_of written → guarded R s [] (used_from 0 self.progressing self.progress) ≡ true
         → Settling R s held written self.progress self.progressing next.state entries ended at
+
+  -- none gone through yet
+  pub applying-none : (self : Account) (entries : Entries) → self.progressing ≤ places → places ≤ length self.progress → entries.count ≡ 1 → Applying self entries self entries 0 0
+  applying-none self entries few many one =
+      record {
+        within = omega arith;
+        counts = omega arith;
+        held = refl;
+        holding = refl;
+        progressing = refl;
+        progress = up_none self.progress;
+        leads = λ s held written same e g. rw same (settling-none R s held written self.progress self.progressing entries e g);
+      }
 
   module _ (self : Account) (entries₀ : Entries) (next : Account) (entries : Entries) (ended at : ℕ) (so_far : Applying self entries₀ next entries ended at)
       (below : at < self.progressing) where

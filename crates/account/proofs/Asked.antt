@@ -1,18 +1,20 @@
 -- A request that is taken, in places: it stands behind the events in progress, behind the requests held, or nowhere, by its verdict. By any rule of the events.
 -- Assumes nothing.
 use Prim.Native.Nat.{ℕ, ◌+◌, ◌<◌}
-use mathlib.Core.Path.{◌≡◌, sym, ap, ◌∙◌}
-use mathlib.Core.Bool.{true}
+use mathlib.Core.Path.{◌≡◌, refl, sym, ap, ◌∙◌}
+use mathlib.Core.Bool.{Bool, true, false, cond}
 use mathlib.Core.List.{List, [], ◌∷◌, ◌++◌}
-use mathlib.Core.Option.{none}
+use mathlib.Core.Option.{Option, none, some}
 use native.Mathlib.Omega.{arith}
 use lib.Dec.{leb}
-use lib.ListN.{length, set, length-append}
+use lib.ListN.{length, get_or, set, length-append}
 use borrow.Author.Tests.{leb-false}
+use Rattle.std.specs.Prelude.{Ok}
 use Rattle.rule.specs.Lists.{some_of}
 use Rattle.rule.specs.Rule as rule
 use Rattle.rule.specs.Weigh.{decide_behind}
 use Rattle.rule.specs.Step.{named, asked_by, asked}
+use Rattle.rule.specs.Call as Rule-Call
 use Rattle.rule.specs.Call.{refusal}
 use Rattle.rule.proofs.Taken.{free-request}
 use Rattle.events.specs.declared.Event.{Event}
@@ -23,16 +25,18 @@ use Rattle.filing.specs.declared.Decision.TheVariants.{Undecided}
 use Rattle.filing.specs.declared.Verdict.{Verdict}
 use Rattle.filing.specs.declared.Verdict.TheVariants.{Accepted, Rejected, Held}
 use Rattle.filing.specs.declared.Weighing.{Weighing}
+use Rattle.filing.specs.declared.Entry.{Entry}
 use Rattle.filing.specs.declared.Entries.{Entries}
 use Rattle.filing.specs.Slots.{RuleSlot, slot_of, place_of, places, blank}
 use Rattle.filing.specs.Entries.{is_accepted, verdict_of, weighing_of, entry_of, entries_of, only_entry}
 use Rattle.filing.proofs.Slots.{place-slot}
 use Rattle.filing.proofs.Filled.{fill-next}
+use Rattle.refusal.specs.declared.Refusal.TheVariants.{NotInOrder}
 use Rattle.account.specs.declared.Account.{Account}
 use Rattle.account.specs.declared.outcomes.Outcomes.{Outcomes}
 use Rattle.account.specs.Places.{RuleAccount, padded, lists_of, account_of}
 use Rattle.account.specs.InOrder.{in_order_by}
-use Rattle.account.specs.Steps.{taken_step}
+use Rattle.account.specs.Steps.{taken_step, refused_step, entries_in, stepped_by, step_by}
 use Rattle.account.specs.inside.Known.{KnowsBy, DecidesBy}
 use Rattle.account.specs.inside.Taken.{taken_as, begun}
 use Rattle.account.proofs.Padded.{RowOf, progress-row, held-row, state-is, account-is}
@@ -115,3 +119,19 @@ request-weighed R ranged a many many_held t g e ok taken o known w decides =
       free = λ v. omega (arith, by.free v, ranged.few);
       room = omega (arith, requests.count', leb-false R.held_limit (length (lists_of a).held) places-left, ranged.few_held);
     }
+
+-- a request that is taken has its vote as its only entry
+module _ (R : rule.Rule State Event ℕ) (a : Account) (t : ℕ) (g : Filed) (e : Event) (past : Entry) (entries : Entries) where
+  abbrev called : Option ℕ → Rule-Call.Called Filed State Event ℕ
+  called refused = Rule-Call.call_by refused (lists_of a) (asked R (lists_of a) t g e)
+
+  pub vote-alone : (step_by R a (rule.request t g e)).answer ≡ Ok entries → entries ≡ only_entry (get_or entries.at 0 past)
+  unfolding step_by Rule-Call.call asked entries_of
+  vote-alone = by (in_order_by R a) (refusal R (lists_of a) (rule.request t g e))
+    where
+      by : (ordered : Bool) (refused : Option ℕ)
+          → (cond ordered (stepped_by a (called refused).account (called refused).answer) (refused_step a NotInOrder)).answer ≡ Ok entries
+          → entries ≡ only_entry (get_or entries.at 0 past)
+      by false refused h = let z : ◌≡◌ {A = ℕ} 0 1 = cc in absurd (omega arith)
+      by true (some n) h = let z : ◌≡◌ {A = ℕ} 0 1 = cc in absurd (omega arith)
+      by true none h = let own = ap entries_in h in rw (← own) refl

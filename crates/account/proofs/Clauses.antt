@@ -17,7 +17,7 @@ use Rattle.filing.specs.Slots.{is_blank, places}
 use Rattle.account.specs.declared.Account.{Account}
 use Rattle.account.specs.Places.{lists_of}
 use Rattle.account.specs.InOrder.{in_order_by}
-use Rattle.account.specs.First.{panel, in_order_of}
+use Rattle.account.specs.First.{in_order_of}
 
 module _ (R : Rule State Event ℕ) (a : Account) where
   pub record Clauses : Type 0 where
@@ -57,4 +57,4 @@ module _ (R : Rule State Event ℕ) (a : Account) where
 
 -- an account that the test finds in order has no more events in progress than places
 pub few_progressing : (a : Account) → (found : Bool) → found ≡ in_order_of a → found ≡ true → a.progressing ≤ places
-few_progressing a found e h = (clauses panel a (sym e ∙ h)).progressing
+few_progressing a found e h = (clauses _ a (sym e ∙ h)).progressing

@@ -3,10 +3,11 @@
 use Prim.Native.Nat.{ℕ, suc, ◌+◌, ◌<◌}
 use mathlib.Core.Path.{◌≡◌, refl, sym, ap, ap₂, ◌∙◌}
 use mathlib.Core.Bool.{Bool, true, false, not, ◌&&◌, ◌||◌}
-use mathlib.Core.List.{List, [], ◌∷◌, ◌++◌, map}
+use mathlib.Core.List.{List, [], ◌∷◌, ◌++◌, map, append_assoc}
 use native.Mathlib.Omega.{arith}
 use lib.Dec.{eqb}
-use lib.ListN.{length, take}
+use lib.ListN.{length, get_or, take, set, length-set}
+use lib.Seq.{take-suc-set}
 use borrow.Author.Tests.{ne_eqb}
 use Rattle.std.proofs.lemmas.List.{take_all}
 use Rattle.std.specs.List.Sorted.{IsStrictlyIncreasing}
@@ -15,8 +16,9 @@ use Rattle.rule.specs.InOrder.{apart}
 use Rattle.rule.specs.Step.{named}
 use Rattle.rule.proofs.Lists.{map-append}
 use Rattle.filing.specs.declared.Slot.{Slot}
-use Rattle.filing.specs.Slots.{slot_of}
+use Rattle.filing.specs.Slots.{blank, slot_of}
 use Rattle.account.specs.inside.Judged.{both_rows, all_differ}
+use Rattle.account.proofs.Places.{take_more}
 
 -- numbers that rise are above a lower one, and differ
 rising-behind : (t : ℕ) (ts : List ℕ) → IsStrictlyIncreasing (t ∷ ts) → IsStrictlyIncreasing ts
@@ -42,6 +44,21 @@ transaction_in x = x.transaction
 pub record Noted (before : List ℕ) (row : List Slot) (at count : ℕ) (transactions : List ℕ) : Type 0 where
   pub both : length transactions ≡ both_rows
   pub noted : take count transactions ≡ before ++ map transaction_in (take at row)
+
+-- one transaction more is noted
+pub noted_more : (before : List ℕ) (row : List Slot) (at count next : ℕ) (transactions : List ℕ) → at < length row → count < both_rows → next ≡ suc count → Noted before row at count transactions
+    → Noted before row (at + 1) next (set transactions count (get_or row at blank).transaction)
+noted_more before row at count next transactions room small e k =
+    let x = get_or row at blank in
+    record {
+      both = length-set transactions count x.transaction ∙ k.both;
+      noted =
+          ap (λ (n : ℕ). take n (set transactions count x.transaction)) e
+          ∙ take-suc-set transactions count x.transaction (omega (arith, k.both))
+          ∙ ap (λ (l : List ℕ). l ++ (x.transaction ∷ [])) k.noted
+          ∙ append_assoc before (map transaction_in (take at row)) (x.transaction ∷ [])
+          ∙ ap (λ (l : List ℕ). before ++ l) (sym (ap (map transaction_in) (take_more row at blank room) ∙ map-append transaction_in (take at row) (x ∷ [])));
+    }
 
 -- transactions as numbers
 some-transaction : (t : ℕ) (xs : List Slot) → some_of (λ (n : ℕ). eqb t n) (map transaction_in xs) ≡ some_of (named t) (map slot_of xs)

@@ -25,7 +25,9 @@ use Rattle.account.specs.declared.outcomes.Outcomes.{Outcomes}
 use Rattle.filing.specs.declared.Decision.{Decision}
 use Rattle.filing.specs.declared.Decision.TheVariants.{Undecided, Committed}
 use Rattle.filing.specs.declared.Filed.{Filed}
+use Rattle.filing.specs.declared.Slot.{Slot}
 use Rattle.filing.specs.Slots.{RuleSlot, is_undecided, decision_of}
+use Rattle.account.specs.Places.{used}
 use Rattle.account.specs.inside.Known.{KnowsBy}
 use Rattle.account.proofs.Ranged.{Ranged}
 
@@ -107,3 +109,7 @@ module _ (R : rule.Rule State Event ℕ) where
   knows-few s xs o k h =
       let most : 2 ^ undecided_of xs ≤ 2 ^ 7 = pow_mono {j = 7} (omega (arith, undecided-few xs)) in
       omega (arith, k.number, outcomes-length R xs s)
+
+  -- at the last place, all of them
+  pub knows-end : (s : State) (row : List Slot) (o : Outcomes) (at count : ℕ) → at ≡ count → KnowsBy R s (used row at) o → KnowsBy R s (used row count) o
+  knows-end s row o at count e k = rw e at k

@@ -19,13 +19,14 @@ use Rattle.account.specs.Places.{lists_of}
 use Rattle.account.specs.InOrder.{in_order_by}
 use Rattle.account.specs.Steps.{step_by, outlook_by}
 use Rattle.account.specs.Plain.{StepPlain, QuestionPlain, PlainHolds}
+use Rattle.account.proofs.Refused.{refused-number}
 
 step-plain : (R : rule.Rule State Event ℕ) (a : Account) (m : rule.Message Filed Event) → StepPlain R a m
 unfolding step_by entries_of
 step-plain R a m =
     record {
       out_of_order = λ order. rw order refl;
-      refused = λ n order answer. rw (order, answer) refl;
+      refused = λ n order answer. (rw (order, answer) refl, refused-number R (lists_of a) m n answer);
       taken = λ xs order answer. rw (order, answer) refl;
     }
 

@@ -3,14 +3,14 @@
 use Prim.Native.Nat.{ℕ}
 use mathlib.Core.Path.{◌≡◌, refl, sym, ap, ◌∙◌}
 use mathlib.Core.Bool.{Bool, true, false, cond, not, ◌||◌}
-use mathlib.Core.Option.{Option, none, some}
+use mathlib.Core.Option.{Option, none, some, some-injective}
 use lib.Dec.{leb}
 use lib.ListN.{length}
 use Rattle.rule.specs.Lists.{some_of}
 use Rattle.rule.specs.Rule as rule
 use Rattle.rule.specs.Step as rule-step
 use Rattle.rule.specs.Call as Rule-Call
-use Rattle.rule.proofs.Refusals.{ended}
+use Rattle.rule.proofs.Refusals.{ended, gives}
 use Rattle.events.specs.declared.Event.{Event}
 use Rattle.events.specs.declared.State.{State}
 use Rattle.filing.specs.declared.Filed.{Filed}
@@ -47,6 +47,10 @@ refusal-told R x (rule.abort t g) = go (some_of (rule-step.named t) x.progress |
     go false c = refl
     go true true = refl
     go true false = refl
+
+-- so a refusal of the rule's number has that number
+pub refused-number : (R : rule.Rule State Event ℕ) (x : RuleAccount) (m : rule.Message Filed Event) (n : ℕ) → (Rule-Call.call R x m).answer ≡ Rule-Call.refused n → number_of (numbered n) ≡ n
+refused-number R x m n h = let given = (gives R x m n).0 h in some-injective (number_of (numbered n)) n (ap told (sym given) ∙ refusal-told R x m ∙ given)
 
 module _ (R : rule.Rule State Event ℕ) (a : Account) (m : rule.Message Filed Event) where
   -- the rule's call by its refusal

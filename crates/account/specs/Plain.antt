@@ -15,7 +15,7 @@ use Rattle.filing.specs.declared.Filed.{Filed}
 use Rattle.filing.specs.Slots.{slot_of, is_blank}
 use Rattle.filing.specs.Entries.{RuleEntry, entries_of}
 use Rattle.refusal.specs.declared.Refusal.TheVariants.{NotInOrder, NoSuchOutcome}
-use Rattle.refusal.specs.Numbers.{numbered}
+use Rattle.refusal.specs.Numbers.{number_of, numbered}
 use Rattle.account.specs.declared.Account.{Account}
 use Rattle.account.specs.Places.{lists_of, account_of}
 use Rattle.account.specs.InOrder.{in_order_by}
@@ -37,12 +37,12 @@ module _ (R : rule.Rule State Event ℕ) where
       && every is_blank (drop a.holding a.held)
       && is_in_order R (record { state = a.state; progress = map slot_of (take a.progressing a.progress); held = map slot_of (take a.holding a.held) }))
 
-  -- a step: 5, and then the rule's answer; a refusal leaves the account and is all that is answered
+  -- a step: 5, and then the rule's answer; a refusal leaves the account and is all that is answered, with the number that the rule gives
   pub record StepPlain (a : Account) (m : rule.Message Filed Event) : Type 0 where
     pub out_of_order : in_order_by R a ≡ false
         → step_by R a m ≡ record { account = a; answer = Err NotInOrder }
     pub refused : (n : ℕ) → in_order_by R a ≡ true → (Rule-Call.call R (lists_of a) m).answer ≡ Rule-Call.refused n
-        → step_by R a m ≡ record { account = a; answer = Err (numbered n) }
+        → (step_by R a m ≡ record { account = a; answer = Err (numbered n) }) × (number_of (numbered n) ≡ n)
     pub taken : (xs : List RuleEntry) → in_order_by R a ≡ true → (Rule-Call.call R (lists_of a) m).answer ≡ Rule-Call.taken xs
         → step_by R a m ≡ record { account = account_of (Rule-Call.call R (lists_of a) m).account; answer = Ok (entries_of xs) }
 

@@ -48,11 +48,16 @@ impl Account {
         }
         let (events, unused) = self.progress.split_at(self.progressing);
         let (requests, unused_held) = self.held.split_at(self.holding);
+        // Before anything else is looked at: an unused place that is not blank ends it.
+        if !all_blank(unused) {
+            return Err(Refusal::NotInOrder);
+        }
+        if !all_blank(unused_held) {
+            return Err(Refusal::NotInOrder);
+        }
         let outcomes = Outcomes::after(self.state, events);
-        // Each test is made whatever the others say, so that no branch stands between them.
-        let in_order = all_blank(unused)
-            & all_blank(unused_held)
-            & self.state.fits()
+        // Each further test is made whatever the others say, so that no branch stands between them.
+        let in_order = self.state.fits()
             & differ(events, requests)
             & without_decisions(requests)
             & outcomes.guarded

@@ -1,5 +1,6 @@
 // The steps of an account: request, commit and abort, and what follows every commit and abort (docs/REGISTER.md, 4.6 and 5).
 // Each works on the account in place; rows go by index, since places move up in the row that is read.
+// Commit and abort are each kept a call: as parts of one caller with the request, the compiler takes the entries of all three apart place by place.
 ghost use Rattle.std.specs.Prelude.{◌≡◌, ◌<◌, ◌≤◌, ◌+◌, length, map};
 ghost use Rattle.rule.specs.Rule.{request, commit, abort};
 ghost use Rattle.rule.specs.Step.{without};
@@ -50,6 +51,7 @@ impl Account {
     }
 
     // A commit: refused, or noted, and the event is committed.
+    #[inline(never)]
     pub fn commit(&mut self, transaction: u32, filed: Filed) -> Result<Entries, Refusal>
         ensures answer { result ≡ (step_of self.old (commit transaction filed)).answer }
         ensures account { self.new ≡ (step_of self.old (commit transaction filed)).account }
@@ -60,6 +62,7 @@ impl Account {
     }
 
     // An abort: refused, or the event or the request is dropped.
+    #[inline(never)]
     pub fn abort(&mut self, transaction: u32, filed: Filed) -> Result<Entries, Refusal>
         ensures answer { result ≡ (step_of self.old (abort transaction filed)).answer }
         ensures account { self.new ≡ (step_of self.old (abort transaction filed)).account }

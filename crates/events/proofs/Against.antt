@@ -1,17 +1,18 @@
 -- The table of reasons: no reason is the conjunction of the guard's tests; each reason exactly if; each is a number from 1 to 4.
 -- Assumes nothing.
-use Prim.Native.Nat.{ℕ, ◌+◌, ◌≤◌}
+use Prim.Native.Nat.{ℕ, ◌+◌, ◌-◌, ◌≤◌}
 use native.Mathlib.Omega.{arith}
-use mathlib.Core.Path.{◌≡◌, refl}
-use mathlib.Core.Bool.{Bool, ◌&&◌}
+use mathlib.Core.Path.{◌≡◌, refl, sym}
+use mathlib.Core.Bool.{Bool, true, false, ◌&&◌, ◌||◌}
 use mathlib.Core.Option.{some}
-use lib.Dec.{leb}
+use lib.Dec.{leb, ltb, eqb}
+use borrow.Author.Tests.{ltb-true, ltb-false, lt-ltb, le-ltb}
 use Rattle.std.proofs.lemmas.Bool.Decides.{nat_tests}
 use Rattle.rule.specs.Rule.{guard}
 use Rattle.events.specs.declared.Event.{Event}
 use Rattle.events.specs.declared.Event.TheVariants.{Open, Withdraw, Deposit, Close}
 use Rattle.events.specs.declared.State.{State}
-use Rattle.events.specs.Events.{limit, is_new, is_opened, reason_of, guard_of}
+use Rattle.events.specs.Events.{limit, is_new, is_opened, reason_of, reason_byte, guard_of}
 use Rattle.events.specs.Panel.{first_panel}
 use Rattle.events.specs.Table.{Reasons}
 
@@ -30,6 +31,18 @@ guard-table e s = grind (arith, nat_tests)
 pub panel-guard : (progress_limit held_limit : ℕ) (e : Event) → guard (first_panel progress_limit held_limit) e ≡ guard_of e
 unfolding guard guard_of
 panel-guard progress_limit held_limit e = refl
+
+-- a deposit that goes over the limit: the amount does alone, or the balance is more than it leaves of it
+pub over-limit : (a b : ℕ) → (ltb limit a || ltb (limit - a) b) ≡ ltb limit (b + a)
+over-limit a b = go (ltb limit a) refl
+  where
+    left : (c : Bool) → ltb (limit - a) b ≡ c → a ≤ limit → c ≡ ltb limit (b + a)
+    left true q h = sym (lt-ltb limit (b + a) (omega (arith, ltb-true (limit - a) b q)))
+    left false q h = sym (le-ltb limit (b + a) (omega (arith, ltb-false (limit - a) b q)))
+
+    go : (c : Bool) → ltb limit a ≡ c → (c || ltb (limit - a) b) ≡ ltb limit (b + a)
+    go true q = sym (lt-ltb limit (b + a) (omega (arith, ltb-true limit a q)))
+    go false q = left (ltb (limit - a) b) refl (ltb-false limit a q)
 
 pub reasons : (progress_limit held_limit : ℕ) (s : State) (a : ℕ) → Reasons progress_limit held_limit s a
 unfolding reason_of
@@ -50,7 +63,12 @@ reasons progress_limit held_limit s a =
       close_others = λ n h. grind (arith, nat_tests);
     }
 
--- every reason fits in a byte, and none is 0, which so stands for no reason alone
+-- every reason fits in a byte, and none is 0
 pub reason-small : (e : Event) (s : State) (n : ℕ) → reason_of e s ≡ some n → (1 ≤ n) × (n ≤ 4)
 unfolding reason_of
 reason-small e s n h = (grind (arith, nat_tests), grind (arith, nat_tests))
+
+-- so that 0 stands for no reason alone
+pub zero-absent : (e : Event) (s : State) → eqb (reason_byte (reason_of e s)) 0 ≡ guard_of e s
+unfolding guard_of reason_of
+zero-absent e s = grind (arith, nat_tests)

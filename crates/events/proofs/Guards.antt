@@ -1,21 +1,44 @@
 -- The rows against the table: a row holds in a state exactly if the event's guard does; where it does, the effect is the table's and its balance is within bounds.
 -- Assumes nothing.
 use Prim.Native.Nat.{ℕ, ◌≤◌}
-use mathlib.Core.Path.{◌≡◌, sym, ◌∙◌, ap}
+use mathlib.Core.Path.{◌≡◌, refl, sym, ◌∙◌, ap}
 use mathlib.Core.Logic.{◌⊎◌}
-use mathlib.Core.Bool.{true, ◌&&◌, ◌||◌}
+use mathlib.Core.Bool.{Bool, true, false, ◌&&◌, ◌||◌, false≢true}
 use lib.Dec.{leb, eqb}
 use native.Mathlib.Omega.{arith}
 use Rattle.std.proofs.lemmas.Bool.Decides.{nat_tests}
 use Rattle.events.specs.declared.Event.{Event}
-use Rattle.events.specs.declared.Life.TheVariants.{Opened}
+use Rattle.events.specs.declared.Life.{Life}
+use Rattle.events.specs.declared.Life.TheVariants.{New, Opened, Closed}
 use Rattle.events.specs.declared.State.{State}
 use Rattle.events.specs.declared.Range.{Range}
 use Rattle.events.specs.declared.condition.Condition.{Condition}
-use Rattle.events.specs.Events.{limit, is_opened, state_fits, guard_of, table_effect, effect_of}
+use Rattle.events.specs.Events.{limit, is_new, is_opened, is_closed, state_fits, guard_of, table_effect, effect_of}
 use Rattle.events.specs.Condition.{most, condition_of, takes, holds}
 use Rattle.events.specs.Range.{every_in, joined, moved, range_after, range_perhaps, stored_effect, stored_after, stored_perhaps}
 use Rattle.events.proofs.Against.{guard-table}
+
+-- two tests that follow from each other
+pub alike : (p q : Bool) → (p ≡ true → q ≡ true) → (q ≡ true → p ≡ true) → p ≡ q
+alike true true f g = refl
+alike true false f g = absurd (false≢true (f refl))
+alike false true f g = absurd (false≢true (g refl))
+alike false false f g = refl
+
+pub new-life : (l : Life) → is_new l ≡ true → l ≡ New
+new-life New h = refl
+new-life Opened h = absurd (false≢true h)
+new-life Closed h = absurd (false≢true h)
+
+pub opened-life : (l : Life) → is_opened l ≡ true → l ≡ Opened
+opened-life New h = absurd (false≢true h)
+opened-life Opened h = refl
+opened-life Closed h = absurd (false≢true h)
+
+pub closed-life : (l : Life) → is_closed l ≡ true → l ≡ Closed
+closed-life New h = absurd (false≢true h)
+closed-life Opened h = absurd (false≢true h)
+closed-life Closed h = refl
 
 pub guard-holds : (e : Event) (s : State) → holds (condition_of e) s ≡ guard_of e s
 guard-holds e s = rw (guard-table e s) (grind (arith, nat_tests))
@@ -33,7 +56,7 @@ unfolding effect_of
 effect-table e s h = rw h
 
 -- and the balance after it fits in four bytes
-effect-fits : (e : Event) (s : State) → s.balance ≤ most → guard_of e s ≡ true → (table_effect e s).balance ≤ most
+pub effect-fits : (e : Event) (s : State) → s.balance ≤ most → guard_of e s ≡ true → (table_effect e s).balance ≤ most
 effect-fits e s h g = let g' = rw (guard-table e s) at g in grind (arith, nat_tests)
 
 -- a state fits that is opened, or has balance 0
@@ -41,12 +64,12 @@ pub fits-same : (s : State) → (leb s.balance limit && (is_opened s.life || eqb
 fits-same s = grind (arith, nat_tests)
 
 -- what an event whose guard holds in all states of a range does to the lowest and to the highest balance fits in four bytes
-moved-fits : (e : Event) (x : Range) → x.lowest ≤ x.highest → x.highest ≤ most → every_in e x ≡ true
+pub moved-fits : (e : Event) (x : Range) → x.lowest ≤ x.highest → x.highest ≤ most → every_in e x ≡ true
     → ((moved e x.lowest).balance ≤ most) × ((moved e x.highest).balance ≤ most)
 moved-fits e x h k all = grind (arith, nat_tests)
 
 -- what fits is stored by the table,
-stored-table : (e : Event) (s : State) → (table_effect e s).balance ≤ most → stored_effect e s ≡ table_effect e s
+pub stored-table : (e : Event) (s : State) → (table_effect e s).balance ≤ most → stored_effect e s ≡ table_effect e s
 stored-table e s h = grind (arith, nat_tests)
 
 -- so the effect is, where the guard holds,

@@ -3,7 +3,7 @@
 -- Assumes nothing.
 use Prim.Native.Nat.{ℕ, ◌≤◌, min}
 use mathlib.Core.Path.{◌≡◌, refl}
-use mathlib.Core.Bool.{Bool, true, false, cond, ◌&&◌, ◌||◌}
+use mathlib.Core.Bool.{Bool, true, false, cond, ◌&&◌, ◌||◌, not, false≢true}
 use mathlib.Core.List.{List, [], ◌∷◌}
 use native.Mathlib.Omega.{arith}
 use lib.Dec.{ltb}
@@ -13,6 +13,7 @@ use Rattle.std.proofs.lemmas.Bool.Decides.{nat_tests}
 use Rattle.rule.specs.Lists.{some_of}
 use Rattle.events.specs.declared.Event.{Event}
 use Rattle.events.specs.declared.Event.TheVariants.{Open, Withdraw, Deposit, Close}
+use Rattle.events.specs.declared.Life.TheVariants.{Opened}
 use Rattle.events.specs.declared.State.{State}
 use Rattle.events.specs.declared.Range.{Range}
 use Rattle.events.specs.declared.condition.Condition.{Condition}
@@ -37,6 +38,15 @@ pub record Formed (x : Range) : Type 0 where
 -- of some states, not of none
 abbrev pub Some : Range → Type 0
 Some x = ((x.new || x.opened) || x.closed) ≡ true
+
+pub opened-alone : (x : Range) → Some x → alone Opened x ≡ true → x.opened ≡ true
+opened-alone x some h = go x.new x.opened x.closed some h
+  where
+    go : (n o c : Bool) → ((n || o) || c) ≡ true → not (n || c) ≡ true → o ≡ true
+    go true o c h k = absurd (false≢true k)
+    go false true c h k = refl
+    go false false true h k = absurd (false≢true k)
+    go false false false h k = h
 
 -- a condition in every state of two ranges, and in some
 module _ (c : Condition) (row : Plain c) where

@@ -1,7 +1,7 @@
 -- Kinds and amounts, the tests of a life, and what is known of many states at a glance, each said a second time row by row over all numbers (docs/REGISTER.md, 3.1, 4.5 and 9.2).
 -- A word that stands in a statement cannot be changed with it.
 -- Assumes nothing.
-use Rattle.std.specs.Prelude.{ℕ, ◌+◌, ◌-◌, ◌≤◌, min, max, ◌≡◌, Bool, true, false, cond, ◌&&◌, ◌||◌, not, ◌↔◌, List, [], ◌∷◌, ◌++◌, map, leb, Some, None}
+use Rattle.std.specs.Prelude.{ℕ, ◌+◌, ◌-◌, ◌≤◌, ◌<◌, min, max, ◌≡◌, Bool, true, false, cond, ◌&&◌, ◌||◌, not, ◌↔◌, List, [], ◌∷◌, ◌++◌, map, leb, Option, Some, None}
 use Rattle.std.proofs.Math.Option.{none, some}
 use Rattle.rule.specs.Rule.{Slot, slot, undecided, committed}
 use Rattle.events.specs.declared.Event.{Event}
@@ -10,15 +10,16 @@ use Rattle.events.specs.declared.Life.{Life}
 use Rattle.events.specs.declared.Life.TheVariants.{New, Opened, Closed}
 use Rattle.events.specs.declared.State.{State}
 use Rattle.events.specs.declared.Range.{Range}
+use Rattle.events.specs.declared.reasons.Reason.{Reason}
 use Rattle.events.specs.declared.reasons.Reason.TheVariants.{WrongLife, ZeroAmount, TooFew, OverLimit}
-use Rattle.events.specs.Reasons.{number_of, numbers_of}
+use Rattle.events.specs.Reasons.{number_of, numbers_of, told_by}
 use Rattle.events.specs.Events.{limit, is_new, is_opened, is_closed, reason_byte, reason_from}
 use Rattle.events.specs.Kinds.{event_kind, amount_of, event_of}
 use Rattle.events.specs.Table.{events}
 use Rattle.events.specs.Glance.{Occurs}
 use Rattle.events.specs.Range.{range_of, range_of_one, joined, every_in, some_in, range_after, range_perhaps, stored_after, stored_perhaps, range_through}
 
--- the four events by kind and amount; the lives; the limit
+-- the four events by kind and amount; the lives; the limit; the reasons and their numbers, and back both ways
 pub record EventLiteral (a : ℕ) : Type 0 where
   pub four : events a ≡ Open a ∷ Withdraw a ∷ Deposit a ∷ Close ∷ []
   pub kinds : map event_kind (Open a ∷ Withdraw a ∷ Deposit a ∷ Close ∷ []) ≡ 1 ∷ 2 ∷ 3 ∷ 4 ∷ []
@@ -36,6 +37,9 @@ pub record EventLiteral (a : ℕ) : Type 0 where
   pub reason_some : (a ≡ 0 → ⊥) → reason_from a ≡ some a
   pub reasons : map numbers_of (None ∷ Some WrongLife ∷ Some ZeroAmount ∷ Some TooFew ∷ Some OverLimit ∷ []) ≡ none ∷ some 1 ∷ some 2 ∷ some 3 ∷ some 4 ∷ []
   pub reason_numbers : map number_of (WrongLife ∷ ZeroAmount ∷ TooFew ∷ OverLimit ∷ []) ≡ 1 ∷ 2 ∷ 3 ∷ 4 ∷ []
+  pub reasons_back : map told_by (none ∷ some 1 ∷ some 2 ∷ some 3 ∷ some 4 ∷ []) ≡ None ∷ Some WrongLife ∷ Some ZeroAmount ∷ Some TooFew ∷ Some OverLimit ∷ []
+  pub reason_told : (r : Option Reason) → told_by (numbers_of r) ≡ r
+  pub number_told : 0 < a → a ≤ 4 → numbers_of (told_by (some a)) ≡ some a
 
 -- the range of one state
 pub record OneLiteral (b : ℕ) : Type 0 where

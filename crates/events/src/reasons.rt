@@ -1,7 +1,7 @@
 // The reasons against an event in a state (docs/REGISTER.md, 3.4).
 ghost use Rattle.std.specs.Prelude.{◌≡◌};
 ghost use Rattle.events.specs.Events.{reason_of, reason_byte};
-ghost use Rattle.events.specs.Reasons.{number_of, numbers_of};
+ghost use Rattle.events.specs.Reasons.{number_of, numbers_of, told_by};
 
 use crate::{Event, Life, State};
 
@@ -27,7 +27,8 @@ impl Event {
     // The reason against the event in this state, if there is one.
     #[tactic(auto, unfolding(crate::specs::Events::reason_of))]
     pub fn reason(self, state: State) -> Option<Reason>
-        ensures { numbers_of result ≡ reason_of self state }
+        ensures reason { result ≡ told_by (reason_of self state) }
+        ensures numbers { numbers_of result ≡ reason_of self state }
     {
         let asked = match self {
             Event::Open(_) => Life::New,

@@ -3,16 +3,18 @@
 use Prim.Native.Nat.{ℕ}
 use native.Mathlib.Omega.{arith}
 use mathlib.Core.Path.{◌≡◌, refl}
-use mathlib.Core.Bool.{true}
+use mathlib.Core.Bool.{true, false≢true}
 use mathlib.Core.List.{List, [], ◌∷◌, map}
 use mathlib.Core.Option.{Option, some}
 use Rattle.std.proofs.lemmas.Bool.Decides.{nat_tests}
 use Rattle.rule.specs.Rule as rule
 use Rattle.events.specs.Events.{reason_byte, reason_from}
 use Rattle.filing.specs.declared.Filed.{Filed}
+use Rattle.filing.specs.declared.Decision.{Decision}
+use Rattle.filing.specs.declared.Decision.TheVariants.{Undecided, Committed}
 use Rattle.filing.specs.declared.Slot.{Slot}
 use Rattle.filing.specs.declared.Weighing.{Weighing}
-use Rattle.filing.specs.Slots.{RuleSlot, slot_of, place_of, blank_filed, is_blank_filed, blank, is_blank}
+use Rattle.filing.specs.Slots.{RuleSlot, is_undecided, slot_of, place_of, blank_filed, is_blank_filed, blank, is_blank}
 use Rattle.filing.specs.Entries.{weighing_of, weighing_in}
 
 pub slot-place : (x : RuleSlot) → slot_of (place_of x) ≡ x
@@ -38,6 +40,11 @@ weighing-back w = grind (arith, nat_tests)
 
 pub weighing-forth : (w : rule.Weighing) → (w.reason ≡ some 0 → ⊥) → weighing_of (weighing_in w) ≡ w
 weighing-forth w h = grind (arith, nat_tests)
+
+-- a decision that passes for undecided
+pub undecided-is : (d : Decision) → is_undecided d ≡ true → d ≡ Undecided
+undecided-is Undecided h = refl
+undecided-is Committed h = absurd (false≢true h)
 
 pub blank-filed : (g : Filed) → is_blank_filed g ≡ true → g ≡ blank_filed
 blank-filed g h = grind (arith, nat_tests)

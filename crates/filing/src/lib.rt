@@ -104,11 +104,14 @@ impl Slot {
         decision: Decision::Undecided,
     };
 
-    // Whether the place is the blank.
+    // Whether the place is the blank. Each test is made whatever the others say, so that few branches stand between them.
     pub fn is_blank(self) -> bool
         ensures { result ≡ is_blank self }
     {
-        self == Slot::BLANK
+        (self.transaction == 0)
+            & self.filed.is_blank()
+            & self.event.is_blank()
+            & self.decision.is_undecided()
     }
 
     // The place, committed.
