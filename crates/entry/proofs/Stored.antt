@@ -1,12 +1,15 @@
 -- Entries stored one after the other are one run of stores, as long as their lengths together. By induction on the list of entries;
 -- one entry more is one step of the loops that count and store them.
 -- Assumes nothing.
-use Prim.Native.Nat.{ℕ, ◌+◌, ◌-◌, ◌*◌, ◌≤◌, ◌<◌}
+use Prim.Native.Nat.{ℕ, ◌+◌, ◌-◌, ◌*◌, ◌≤◌, ◌<◌, min}
 use native.Mathlib.Nat.{add_assoc, zero-add, add-zero, mul-suc}
 use native.Mathlib.Numerals.{add-one}
 use native.Mathlib.Omega.{arith}
 use mathlib.Core.Path.{◌≡◌, refl, sym, ◌∙◌}
+use mathlib.Core.Bool.{Bool, true, false}
 use mathlib.Core.List.{List, [], ◌∷◌, ◌++◌, map, append-nil, append_assoc}
+use borrow.Author.Tests.{leb-true, leb-false}
+use lib.Dec.{leb}
 use lib.ListN.{length, get_or, take, drop, length-append, length-drop}
 use lib.Seq.{sets, sets-eq, take-suc}
 use borrow.Rule.Slice.PartMut.{put_mid, mid_of, post_of}
@@ -107,3 +110,16 @@ module _ (places : List Entry) (i : ℕ) (h : i < length places) where
       rw (entries-more account)
       (sets_more (bytes_of_entries account (take i places)) bytes l l₁ (put_mid at (length l₁ - at) l₁ l₂) 0 at
       (length-entries account (take i places) ∙ sym a) e₁ (rw (zero-add, e₂) (stored-behind bytes l₁ at fits)))
+
+-- a count above the number of places counts as all of them
+pub all-places : {A : Type 0} (places : List A) (count : ℕ) → length places ≡ 17 → take (min count 17) places ≡ take count places
+all-places {A} places count h = go (leb count 17) refl
+  where
+    go : (b : Bool) → leb count 17 ≡ b → take (min count 17) places ≡ take count places
+    go true e = let m : count ≤ 17 = leb-true count 17 e in let k : min count 17 ≡ count = omega arith in rw k
+    go false e =
+        let m : 17 < count = leb-false count 17 e in
+        let k : min count 17 ≡ 17 = omega arith in
+        let a : length places ≤ 17 = omega arith in
+        let b : length places ≤ count = omega arith in
+        rw (k, take_all 17 places a, take_all count places b)

@@ -7,7 +7,7 @@ mod writer;
 
 use filing::Entry;
 pub use reader::read_entry;
-pub use writer::write_entries;
+pub use writer::{write_entries, write_entry};
 
 // The room that a call needs: a commit noted, 8 events applied and 8 rejections.
 pub const LONGEST_CALL: usize = 323;

@@ -1,5 +1,5 @@
 // The writer of entries.
-ghost use Rattle.std.specs.Prelude.{◌≡◌, ◌≤◌, ◌↔◌, IsTrue};
+ghost use Rattle.std.specs.Prelude.{◌≡◌, ◌≤◌, ◌↔◌, IsTrue, [], ◌∷◌};
 ghost use Rattle.std.proofs.lemmas.List.Edits.{sets};
 ghost use Rattle.entry.specs.Bytes.{bytes_of_entry, length_of_told, wholes_of};
 ghost use Rattle.entry.specs.Answers.{write_of};
@@ -22,6 +22,14 @@ pub fn write_entries(entries: &[Entry], account: u16, buffer: &mut [u8]) -> Resu
         at += put_entry(&mut buffer[at..], account, *entry);
     }
     Ok(at)
+}
+
+// Writes an entry alone, as the only one of a call of that account, to the beginning of a buffer.
+pub fn write_entry(entry: Entry, account: u16, buffer: &mut [u8]) -> Result<usize, Refusal>
+    ensures answer { result ≡ (write_of (entry ∷ []) account buffer.old).answer }
+    ensures buffer { buffer.new ≡ (write_of (entry ∷ []) account buffer.old).buffer }
+{
+    write_entries(&[entry], account, buffer)
 }
 
 // No entry is longer, whatever its kind: a number has 4 bytes at most.

@@ -10,7 +10,7 @@ use borrow.Author.Tests.{eqb-true}
 use borrow.Rule.Slice.PartMut.{put_mid, mid_of}
 use lib.Dec.{eqb}
 use lib.ListN.{length, get_or, take, drop, set, replicate, length-append, length-drop, take-append-drop}
-use lib.Seq.{sets, sets-eq, get_or-drop, drop-drop, drop-append-le, length-take-le}
+use lib.Seq.{sets, sets-eq, get_or-drop, drop-cons, drop-drop, drop-append-le, length-take-le}
 use Rattle.std.specs.Simd.{first_chunks}
 use Rattle.std.proofs.lemmas.List.{get_or-take, set_at, take_more, length-map, append-nil}
 use Rattle.rule.specs.Lists.{every}
@@ -22,7 +22,18 @@ use Rattle.filing.specs.Slots.{blank}
 use Rattle.image.specs.Words.{place_words, event_place, amount_place, decision_place, words_of_slot, words_of_slots}
 use Rattle.image.specs.Reading.{slot_from, is_slot, slots_from, are_slots, are_zero}
 
--- ---- words that are all 0 read as blanks
+-- ---- words that are all 0: one more of them
+
+pub zeros-go-on : (words : List ℕ) (from count i : ℕ) (known : Bool) → i < count → from + count ≤ length words
+    → known && are_zero (take (count - i) (drop (from + i) words)) ≡ are_zero (take count (drop from words))
+    → known && eqb (get_or words (from + i) 0) 0 && are_zero (take (count - (i + 1)) (drop (from + (i + 1)) words)) ≡ are_zero (take count (drop from words))
+zeros-go-on words from count i known h room e =
+    let left : count - i ≡ suc (count - (i + 1)) = omega arith in
+    let next : from + (i + 1) ≡ suc (from + i) = omega arith in
+    let there : from + i < length words = omega arith in
+    rw (next, and_assoc) (rw (left, drop-cons words (from + i) 0 there) at e)
+
+-- and what they read as: blanks
 
 zero-at : (k : ℕ) (words : List ℕ) → are_zero (take k words) ≡ true → (i : ℕ) → i < k → get_or words i 0 ≡ 0
 zero-at zero words z i h = absurd (omega arith)

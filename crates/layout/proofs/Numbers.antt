@@ -2,16 +2,17 @@
 -- are inverse. By induction on the width: the last byte is the remainder by 256, and those before it are the bytes of the quotient.
 -- Assumes nothing.
 use Prim.Native.Nat.{ℕ, zero, suc, ◌+◌, ◌*◌, ◌/◌, ◌%◌, ◌^◌, ◌≤◌, ◌<◌}
-use native.Mathlib.Nat.{add-zero, add-suc, zero-add, add_assoc, mul_assoc, mul_comm, pow-suc, pow-zero, div-div-eq-div-mul, div-lt_iff_lt-mul, div-one, mul-one, mod-lt, mod-eq_of_lt, div-add-mod'}
+use native.Mathlib.Nat.{add-zero, add-suc, zero-add, add_assoc, add_comm, mul_assoc, mul_comm, pow-suc, pow-zero, div-div-eq-div-mul, div-lt_iff_lt-mul, div-one, mul-one, mod-lt, mod-eq_of_lt, div-add-mod'}
 use native.Mathlib.Numerals.{add-one}
 use native.Mathlib.Omega.{arith}
-use mathlib.Core.Path.{◌≡◌, refl, ap, ◌∙◌}
+use mathlib.Core.Path.{◌≡◌, refl, sym, ap, ◌∙◌}
 use mathlib.Core.List.{List, [], ◌∷◌, ◌++◌, append-nil, append_assoc}
 use lib.Arith.{mod-mul, digits_lt, digits_div, digits_mod}
 use lib.Dec.{lit<}
-use lib.ListN.{length, get_or, take, drop, length-append, length-drop}
-use lib.Seq.{append_snoc, get_or_at, get_or-drop, take-suc}
+use lib.ListN.{length, get_or, take, drop, length-append, length-drop, get_or-eq_default}
+use lib.Seq.{sets, append_snoc, get_or_at, get_or-drop, take-suc}
 use Rattle.layout.specs.Number.{bytes_of, number_at, AreBytes}
+use Rattle.layout.proofs.Stores.{sets-before}
 
 pub length-bytes_of : (width number : ℕ) → length (bytes_of width number) ≡ width
 unfolding bytes_of
@@ -42,6 +43,21 @@ pub bytes_of-one : (number : ℕ) → number < 256 → bytes_of 1 number ≡ num
 unfolding bytes_of
 bytes_of-one number h = rw (mod-eq_of_lt h)
 
+-- storing one byte more in front of those that are stored: `count` of them, and one
+pub sets-front : (count number i rest : ℕ) (l l₁ l₂ : List ℕ) → rest ≡ number / 256 ^ count → l₁ ≡ sets l (i + 1) (bytes_of count number)
+    → l₂ ≡ sets l₁ i (bytes_of 1 (rest % 256)) → l₂ ≡ sets l i (bytes_of (count + 1) number)
+sets-front count number i rest l l₁ l₂ r e₁ e₂ =
+    let parts : bytes_of (count + 1) number ≡ number / 256 ^ count % 256 ∷ bytes_of count number =
+    rw (add_comm count 1, bytes_of-parts 1 count number, ← bytes_of-low 1 (number / 256 ^ count), bytes_of-one (number / 256 ^ count % 256) (mod-lt (number / 256 ^ count) (lit< tt))) in
+    let byte : bytes_of 1 (number / 256 ^ count % 256) ≡ number / 256 ^ count % 256 ∷ [] = bytes_of-one (number / 256 ^ count % 256) (mod-lt (number / 256 ^ count) (lit< tt)) in
+    rw (parts, e₂, e₁, r, byte, add-one i) (sets-before (number / 256 ^ count % 256) (bytes_of count number) l i)
+
+-- a number past the end is 0
+pub number_at-out : (width at : ℕ) (bytes : List ℕ) → length bytes ≤ at → number_at bytes at width ≡ 0
+unfolding number_at
+number_at-out zero at bytes h = refl
+number_at-out (suc width) at bytes h = rw (number_at-out width at bytes h, get_or-eq_default bytes 0 {n = at + width} (omega arith))
+
 -- a number read in two parts
 pub number_at-parts : (high low at : ℕ) (bytes : List ℕ)
     → number_at bytes at (high + low) ≡ number_at bytes at high * 256 ^ low + number_at bytes (at + high) low
@@ -49,6 +65,21 @@ unfolding number_at
 number_at-parts high zero at bytes = rw (add-zero high, pow-zero, mul-one, add-zero)
 number_at-parts high (suc low) at bytes =
     rw (add-suc, pow-suc, number_at-parts high low at bytes, ← mul_assoc, ← add_assoc at high low) (omega arith)
+
+-- one byte more, and that four bytes hold what comes of it
+pub number_at-more : (i at number byte : ℕ) (bytes : List ℕ) → number ≡ number_at bytes at i → byte ≡ number_at bytes (at + i) 1
+    → number * 256 + byte ≡ number_at bytes at (i + 1)
+number_at-more i at number byte bytes p q = rw (p, q) (sym (number_at-parts i 1 at bytes))
+
+pub more-fits : (i number byte : ℕ) → number < 256 ^ i → byte < 256 → number * 256 + byte < 256 ^ (i + 1)
+more-fits i number byte h b = rw (add-one i, pow-suc) (digits_lt h b)
+
+pub three-fit : (i number : ℕ) → i < 4 → number < 256 ^ i → number < 16_777_216
+three-fit zero number h p = omega arith
+three-fit (suc zero) number h p = omega arith
+three-fit (suc (suc zero)) number h p = omega arith
+three-fit (suc (suc (suc zero))) number h p = omega arith
+three-fit (suc (suc (suc (suc i)))) number h p = absurd (omega arith)
 
 pub number_at-one : (at : ℕ) (bytes : List ℕ) → number_at bytes at 1 ≡ get_or bytes at 0
 unfolding number_at

@@ -78,12 +78,11 @@ pub fn put_numbers(buffer: &mut [u8], at: usize, widths: [u8; FIELDS], numbers: 
 pub fn read_numbers(bytes: &[u8], widths: [u8; FIELDS]) -> [u32; FIELDS]
     ensures { result ≡ numbers_at (map bytes_in widths) bytes.now 0 }
 {
-    let row = bytes_at(bytes, 0);
     let mut numbers = [0; FIELDS];
     let mut from = 0;
     // By index: a proof knows nothing of what an adapter of `iter_mut` wrote.
     for (i, width) in widths.iter().enumerate() {
-        numbers[i] = number(&row, from, *width);
+        numbers[i] = number(bytes, from, *width);
         from += bytes_in(*width);
     }
     numbers
@@ -133,17 +132,16 @@ pub fn number4(bytes: &[u8], at: usize) -> u32
     u32::from_be_bytes(bytes_at(bytes, at))
 }
 
-// The number of that width from `at` on, with no look at the row's end.
+// The number of that width from `at` on.
 #[tactic(auto, unfolding(crate::specs::Number::number_at))]
-fn number(row: &[u8; LONGEST_ROW], at: usize, width: u8) -> u32
-    requires { at + 4 ≤ 40 }
-    ensures { result ≡ number_at row.now at (bytes_in width) }
+fn number(bytes: &[u8], at: usize, width: u8) -> u32
+    ensures { result ≡ number_at bytes.now at (bytes_in width) }
 {
     match width {
         0 => 0,
-        1 => row[at] as u32,
-        2 => u16::from_be_bytes([row[at], row[at + 1]]) as u32,
-        _ => u32::from_be_bytes([row[at], row[at + 1], row[at + 2], row[at + 3]]),
+        1 => number1(bytes, at) as u32,
+        2 => number2(bytes, at) as u32,
+        _ => number4(bytes, at),
     }
 }
 
@@ -151,14 +149,18 @@ fn number(row: &[u8; LONGEST_ROW], at: usize, width: u8) -> u32
 fn bytes_at<const COUNT: usize>(bytes: &[u8], at: usize) -> [u8; COUNT]
     ensures { (i : ℕ) → i < COUNT → slice_index result i ≡ slice_index bytes.now (at + i) }
 {
-    let Some(rest) = bytes.get(at..) else {
+    if bytes.len() <= at {
         return [0; COUNT];
-    };
+    }
+    let rest = &bytes[at..];
     if let Some(whole) = rest.first_chunk() {
         return *whole;
     }
+    // Near the end byte by byte, since a copy of a part is a call; by index as in `read_numbers`.
     let mut found = [0; COUNT];
-    found[..rest.len()].copy_from_slice(rest);
+    for i in 0..COUNT {
+        found[i] = number1(rest, i);
+    }
     found
 }
 
@@ -199,7 +201,10 @@ fn put(buffer: &mut [u8], width: u8, number: u32) -> usize
     let [a, b, c, d] = number.to_be_bytes();
     match width {
         0 => 0,
-        1 => put_bytes(buffer, [d]),
+        1 => {
+            put1(buffer, 0, d);
+            1
+        }
         2 => put_bytes(buffer, [c, d]),
         _ => put_bytes(buffer, [a, b, c, d]),
     }

@@ -1,10 +1,8 @@
 -- What was read and what is left to read are the row.
 -- Assumes nothing.
-use Rattle.std.proofs.Common.{◌≤◌, length, ◌∙◌, arith, length-set, append-nil, get_or, ap, ℕ}
+use Rattle.std.proofs.Common.{◌≤◌, length, ◌∙◌, arith, length-set, append-nil}
 use lib.Seq.{take_all}
 use Rattle.layout.specs.Fields.{numbers_at}
-use Rattle.layout.specs.Shapes.{bytes_in}
-use Rattle.layout.proofs.Numbers.{number_at-same}
 use Rattle.layout.proofs.Shapes.{read-place, none_left}
 use Rattle.layout.proofs.read_numbers.Goals as goal
 
@@ -16,8 +14,7 @@ loop-i-preserved c =
       near = omega arith;
       places = rw length-set v.invariant.places;
       rest =
-          read-place a.widths v.numbers a.bytes.now v.from v.i c.bytes_in-from.result c.number.result (omega arith) (omega arith)
-          c.bytes_in-from.ensures.0 (c.number.ensures ∙ number_at-same (bytes_in (get_or a.widths v.i 0)) v.from 40 a.bytes.now c.bytes_at-row.result (omega arith) (λ i h. c.bytes_at-row.ensures i h ∙ ap (λ (k : ℕ). get_or a.bytes.now k 0) (omega arith)))
+          read-place a.widths v.numbers a.bytes.now v.from v.i c.bytes_in-from.result c.number.result (omega arith) (omega arith) c.bytes_in-from.ensures.0 c.number.ensures
           ∙ v.invariant.rest;
     }
 
