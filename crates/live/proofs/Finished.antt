@@ -2,20 +2,24 @@
 -- Assumes nothing.
 use Prim.Native.Nat.{ℕ, ◌≤◌, ◌<◌}
 use native.Mathlib.Omega.{arith}
-use mathlib.Core.Path.{◌≡◌, refl}
+use mathlib.Core.Path.{◌≡◌, refl, ap, sym, ◌∙◌}
 use mathlib.Core.List.{List}
 use borrow.Author.Tests.{lt-ltb, le-ltb}
-use lib.ListN.{length}
+use lib.ListN.{length, get_or}
 use lib.Seq.{get_or-set_same}
 use Rattle.std.specs.Prelude.{Result, Ok, Err}
-use Rattle.rule.specs.Rule.{Rule}
+use Rattle.rule.specs.Rule.{Rule, request}
 use Rattle.events.specs.declared.Event.{Event}
 use Rattle.events.specs.declared.State.{State}
+use Rattle.filing.specs.declared.Filed.{Filed}
+use Rattle.filing.specs.declared.Entry.{Entry}
 use Rattle.filing.specs.declared.Entries.{Entries}
+use Rattle.filing.specs.Entries.{only_entry}
 use Rattle.refusal.specs.declared.Refusal.{Refusal}
 use Rattle.refusal.specs.declared.Refusal.TheVariants.{NoRoom}
 use Rattle.account.specs.declared.Account.{Account}
 use Rattle.account.specs.Steps.{Stepped, step_by}
+use Rattle.account.proofs.Asked.{vote-alone}
 use Rattle.layout.specs.Fields.{last_account}
 use Rattle.layout.specs.Writes.{wrote_over}
 use Rattle.message.specs.declared.Message.{Message}
@@ -25,7 +29,7 @@ use Rattle.entry.specs.Bytes.{bytes_of_entries, list_of}
 use Rattle.entry.specs.Answers.{longest_call, write_of}
 use Rattle.image.specs.Reading.{account_from}
 use Rattle.register.specs.Register.{accounts_of_register, nowhere, rule_message, sent_as, sent_by}
-use Rattle.register.specs.Call.{Called, refused_with, wrote_of, after_message, called_by}
+use Rattle.register.specs.Call.{Reply, Called, refused_with, wrote_of, after_message, called_by}
 use Rattle.register.proofs.ReadAs.{read_as, account-read}
 use Rattle.register.proofs.Suits.{Suits}
 use Rattle.register.proofs.Sending.{step-bytes}
@@ -50,6 +54,21 @@ module _ (image buffer : List ℕ) (i consumed : ℕ) (low : i < accounts_of_reg
   finished-is (Ok entries) =
       let there : i < length (register_of image).accounts = rw (length-accounts_from accounts_of_register image 0) low in
       rw (get_or-set_same (register_of image).accounts i next nowhere there) refl
+
+-- what is at hand at a way out: the reply, the image and the buffer
+abbrev pub Gives : Live → Reply → (image buffer : List ℕ) → Type 0
+Gives live reply image buffer = (reply ≡ live.reply) × (image ≡ live.image) × (buffer ≡ live.buffer)
+
+pub gives : {x y : Live} → x ≡ y → (reply : Reply) (image buffer : List ℕ) → Gives y reply image buffer → Gives x reply image buffer
+gives e reply image buffer g = rw e g
+
+-- of a request that is taken the vote alone: what comes of it is what comes of its entries
+pub vote-finished : (R : Rule State Event ℕ) (a : Account) (t : ℕ) (g : Filed) (e : Event) (past : Entry) (image buffer : List ℕ) (i consumed : ℕ) (stepped : Stepped) (entries : Entries)
+    → stepped ≡ step_by R a (request t g e) → stepped.answer ≡ Ok entries
+    → finished_of image buffer i consumed stepped ≡ finished_by image buffer i consumed (Ok (only_entry (get_or entries.at 0 past))) stepped.account
+vote-finished R a t g e past image buffer i consumed stepped entries s k =
+    let one = vote-alone R a t g e past entries (ap (λ (x : Stepped). x.answer) (sym s) ∙ k) in
+    ap (λ (answer : Result Entries Refusal). finished_by image buffer i consumed answer stepped.account) (k ∙ ap (λ (es : Entries). Ok es) one)
 
 module _ (R : Rule State Event ℕ) (image bytes buffer : List ℕ) where
   pub live-refused : (refusal : Refusal) → called_by R (register_of image) bytes buffer ≡ refused_with (register_of image) buffer refusal → live_by R image bytes buffer ≡ refused_live image buffer refusal

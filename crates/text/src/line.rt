@@ -108,12 +108,23 @@ impl Line {
         self.length += count;
     }
 
+    // A letter behind those that it has: in one step, where `put` copies.
+    #[tactic(auto, using(crate::proofs::Texts::letter_put, crate::proofs::Texts::letter_past))]
+    fn push(&mut self, letter: u8)
+        ensures { self.new ≡ kept (self.old ++ (letter ∷ [])) }
+    {
+        if self.length < LONGEST_LINE {
+            self.letters[self.length] = letter;
+            self.length += 1;
+        }
+    }
+
     // A space and a number.
     #[tactic(auto, using(crate::proofs::Texts::field_grown))]
     pub(crate) fn put_number(&mut self, number: u32)
         ensures { self.new ≡ kept (self.old ++ spaced (decimal number ∷ [])) }
     {
-        self.put(b" ");
+        self.push(b' ');
         self.put_decimal(number);
     }
 
@@ -132,7 +143,7 @@ impl Line {
         if 10 <= number {
             self.put_decimal(number / 10);
         }
-        self.put(&[b'0' + (number % 10) as u8]);
+        self.push(b'0' + (number % 10) as u8);
     }
 
     // An event's name and amount.
@@ -140,7 +151,7 @@ impl Line {
     fn put_event(&mut self, event: Event)
         ensures { self.new ≡ kept (self.old ++ spaced (event_name event ∷ decimal (amount_of event) ∷ [])) }
     {
-        self.put(b" ");
+        self.push(b' ');
         self.put(words::event_name(event));
         self.put_number(event.amount());
     }

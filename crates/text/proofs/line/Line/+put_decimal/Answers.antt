@@ -16,8 +16,8 @@ returns t c =
     elim c.if-number-ge10.branch [
       | then-number-ge10 w ↦
           rw (plain.more w.if-number-ge10.true (omega arith))
-          (grown (decimal (number / 10)) last line c.if-number-ge10.self c.put.new.self (rw w.self-is w.put_decimal.ensures) c.put.ensures)
+          (grown (decimal (number / 10)) last line c.if-number-ge10.self c.push.new.self (rw w.self-is w.put_decimal.ensures) c.push.ensures)
       | else-number-ge10 w ↦
           let digit : number % 10 ≡ number = omega arith in
-          rw (plain.one w.if-number-ge10.false) (rw (w.self-is, digit) at c.put.ensures)
+          rw (plain.one w.if-number-ge10.false) (rw (w.self-is, digit) at c.push.ensures)
     ]
