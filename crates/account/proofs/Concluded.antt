@@ -43,6 +43,10 @@ and-false : (b : Bool) → (b && false) ≡ false
 and-false true = refl
 and-false false = refl
 
+nested : (b c d e f g h : Bool) → (b && c && d && e && f && g && h) ≡ (b && (c && d && e && f && g && h))
+nested true c d e f g h = refl
+nested false c d e f g h = refl
+
 last-counts : (b g o s s' : Bool) → (g ≡ true → s ≡ s') → (b && g && o && s) ≡ (b && g && o && s')
 last-counts b true o s s' h = ap (λ (x : Bool). b && true && o && x) (h refl)
 last-counts b false o s s' h = ap (λ (x : Bool). x && o && s) (and-false b) ∙ sym (ap (λ (x : Bool). x && o && s') (and-false b))
@@ -76,8 +80,41 @@ module _ (R : rule.Rule State Event ℕ) (a : Account) where
   within : (row : List Slot) (count most : ℕ) → count ≤ most → leb (length (map slot_of (take count row))) most ≡ true
   within row count most h = le-leb (length (map slot_of (take count row))) most (omega (arith, length-map (take count row) slot_of, length-take count row))
 
-  -- and where they are within, and the unused places are blank, the other tests tell
-  pub tests-order : a.progressing ≤ R.progress_limit → a.holding ≤ R.held_limit
+  -- and where they are within, the other tests tell
+  pub tests-order : a.progressing ≤ R.progress_limit → a.holding ≤ R.held_limit → (guards stays : Bool)
+      → guards ≡ rule-order.guarded R a.state [] (map slot_of events)
+      → (guards ≡ true → stays ≡ rule-order.oldest_stays_held R a.state (map slot_of events) (map slot_of requests))
+      → (list_all is_blank (drop a.progressing a.progress)
+      && list_all is_blank (drop a.holding a.held)
+      && R.fits a.state
+      && rule-order.apart (map slot_of events ++ map slot_of requests)
+      && list_all (λ (x : Slot). is_undecided x.decision) requests
+      && guards
+      && rule-order.oldest_undecided (map slot_of events)
+      && stays)
+      ≡ in_order_by R a
+  unfolding in_order_by rule-order.is_in_order lists_of
+  tests-order few few_held guards stays g s =
+      let b = list_all is_blank (drop a.progressing a.progress) && list_all is_blank (drop a.holding a.held) in
+      let apart = rule-order.apart (map slot_of events ++ map slot_of requests) in
+      let none = list_all (λ (x : Slot). is_undecided x.decision) requests in
+      let oldest = rule-order.oldest_undecided (map slot_of events) in
+      let held = rule-order.oldest_stays_held R a.state (map slot_of events) (map slot_of requests) in
+      last-counts (b && R.fits a.state && apart && none) guards oldest stays held s
+      ∙ nested b (R.fits a.state) apart none guards oldest held
+      ∙ rw (
+        le-leb a.progressing R.progress_limit few,
+        le-leb a.holding R.held_limit few_held,
+        within a.progress a.progressing R.progress_limit few,
+        within a.held a.holding R.held_limit few_held,
+        all-every is_blank (drop a.progressing a.progress),
+        all-every is_blank (drop a.holding a.held),
+        undecided-every requests,
+        g,
+      ) refl
+
+  -- so that behind unused places that are blank, those that judging makes still are all
+  pub tests-order-blank : a.progressing ≤ R.progress_limit → a.holding ≤ R.held_limit
       → list_all is_blank (drop a.progressing a.progress) ≡ true → list_all is_blank (drop a.holding a.held) ≡ true → (guards stays : Bool)
       → guards ≡ rule-order.guarded R a.state [] (map slot_of events)
       → (guards ≡ true → stays ≡ rule-order.oldest_stays_held R a.state (map slot_of events) (map slot_of requests))
@@ -88,20 +125,4 @@ module _ (R : rule.Rule State Event ℕ) (a : Account) where
       && rule-order.oldest_undecided (map slot_of events)
       && stays)
       ≡ in_order_by R a
-  unfolding in_order_by rule-order.is_in_order lists_of
-  tests-order few few_held blanks blanks_held guards stays g s =
-      let apart = rule-order.apart (map slot_of events ++ map slot_of requests) in
-      let none = list_all (λ (x : Slot). is_undecided x.decision) requests in
-      let oldest = rule-order.oldest_undecided (map slot_of events) in
-      let held = rule-order.oldest_stays_held R a.state (map slot_of events) (map slot_of requests) in
-      last-counts (R.fits a.state && apart && none) guards oldest stays held s
-      ∙ rw (
-        le-leb a.progressing R.progress_limit few,
-        le-leb a.holding R.held_limit few_held,
-        sym (all-every is_blank (drop a.progressing a.progress)) ∙ blanks,
-        sym (all-every is_blank (drop a.holding a.held)) ∙ blanks_held,
-        within a.progress a.progressing R.progress_limit few,
-        within a.held a.holding R.held_limit few_held,
-        undecided-every requests,
-        g,
-      ) refl
+  tests-order-blank few few_held blanks blanks_held guards stays g s = rw (blanks, blanks_held) at (tests-order few few_held guards stays g s)

@@ -6,7 +6,7 @@ use Rattle.rule.proofs.Lists.{or_left, or_right}
 use Rattle.account.specs.Places.{used, lists_of}
 use Rattle.account.specs.First.{progress_limit, held_limit}
 use Rattle.account.proofs.Places.{count-used}
-use Rattle.account.proofs.Concluded.{beyond, marked-progress, marked-held, tests-order}
+use Rattle.account.proofs.Concluded.{beyond, marked-progress, marked-held, tests-order-blank}
 use Rattle.account.proofs.Account.judge.Goals as goal
 
 -- where the counts are tested they are within the limits
@@ -45,7 +45,7 @@ returns-then-not-in_order c =
     let blanks = rw (c.all_blank.ensures, c.split_at.ensures.back) at c.if-not-all_blank.false in
     let blanks_held = rw (c.all_blank-2.ensures, c.split_at-2.ensures.back) at c.if-not-all_blank-2.false in
     let same =
-    tests-order _ self few.0 few.1 blanks blanks_held c.after-outcomes.result.guarded c.oldest_stays_held.result known.guards
+    tests-order-blank _ self few.0 few.1 blanks blanks_held c.after-outcomes.result.guarded c.oldest_stays_held.result known.guards
     (λ g. stays self.state (used self.progress self.progressing) known g (count-used self.progress self.progressing (omega arith))) in
     (sym same ∙ tests, refl)
 
@@ -68,7 +68,7 @@ returns c =
     let blanks = rw (c.all_blank.ensures, c.split_at.ensures.back) at c.if-not-all_blank.false in
     let blanks_held = rw (c.all_blank-2.ensures, c.split_at-2.ensures.back) at c.if-not-all_blank-2.false in
     let same =
-    tests-order _ self few.0 few.1 blanks blanks_held c.after-outcomes.result.guarded c.oldest_stays_held.result known.guards
+    tests-order-blank _ self few.0 few.1 blanks blanks_held c.after-outcomes.result.guarded c.oldest_stays_held.result known.guards
     (λ g. stays self.state (used self.progress self.progressing) known g (count-used self.progress self.progressing (omega arith))) in
     let finds = rw (c.split_at.ensures.front, c.split_at-2.ensures.front) at c.find.ensures in
     (sym same ∙ tests, record { knows = known; finds = finds })
