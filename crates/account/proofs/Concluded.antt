@@ -113,7 +113,7 @@ module _ (R : rule.Rule State Event ℕ) (a : Account) where
         g,
       ) refl
 
-  -- so that behind unused places that are blank, those that judging makes still are all
+  -- so that where the unused places are known to be blank, the tests that are left tell
   pub tests-order-blank : a.progressing ≤ R.progress_limit → a.holding ≤ R.held_limit
       → list_all is_blank (drop a.progressing a.progress) ≡ true → list_all is_blank (drop a.holding a.held) ≡ true → (guards stays : Bool)
       → guards ≡ rule-order.guarded R a.state [] (map slot_of events)
